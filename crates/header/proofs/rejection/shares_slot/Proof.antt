@@ -1,0 +1,58 @@
+use mathlib.Core.Path.{refl, ap, _≡_, sym, _∙_}
+use mathlib.Core.Bool.{true, false}
+use borrow.Author.Needs.{needs}
+use Prim.Native.Nat.{ℕ, _+_, _-_}
+use Rattle.header.specs.Rejections.{slotAt, slotOccurs, sharesSlot}
+use Rattle.units.specs.Scan.{scan, scan-hit, scan-miss, scan-end}
+use Rattle.header.proofs.rejection.shares_slot.Statement.{statement}
+use Rattle.header.proofs.rejection.shares_slot.Tie as tie
+
+abbrev Inv-loop : tie.InvT-loop
+Inv-loop file cte i₀ i = sharesSlot file cte ≡ scan (λ (j : ℕ). slotOccurs file (slotAt file j) (j + 1) cte) (λ (j : ℕ). true) false i (cte - i)
+
+abbrev μ-loop : tie.MeasureT-loop
+μ-loop file cte i₀ i = cte - i
+
+loop-holds : tie.Need-loop-holds Inv-loop μ-loop
+unfolding sharesSlot
+loop-holds c = refl
+
+slot-at-requires : tie.Need-slot-at-requires Inv-loop μ-loop
+slot-at-requires c κs = search needs
+
+add-slot-occurs : tie.Need-add-slot-occurs Inv-loop μ-loop
+add-slot-occurs c = search needs
+
+slot-occurs-requires : tie.Need-slot-occurs-requires Inv-loop μ-loop
+slot-occurs-requires c κs = search needs
+
+returns : tie.Need-returns Inv-loop μ-loop
+returns c = sym (c .before .before .before .before .loop .inv ∙ scan-hit (λ (j : ℕ). slotOccurs (c .before .before .before .before .before .before .args .file .now) (slotAt (c .before .before .before .before .before .before .args .file .now) j) (j + 1) (c .before .before .before .before .before .before .args .cte)) (λ (j : ℕ). true) false (c .before .before .before .before .loop .i) (c .before .before .before .before .before .before .args .cte) (c .before .before .before .loop-test .taken) (sym (c .before .slot-occurs .ensures ∙ ap (λ (s : ℕ). slotOccurs (c .before .before .before .before .before .before .args .file .now) s (c .before .before .before .before .loop .i + 1) (c .before .before .before .before .before .before .args .cte)) (c .before .before .slot-at .ensures)) ∙ c .if1 .taken))
+
+add-i : tie.Need-add-i Inv-loop μ-loop
+add-i c = search needs
+
+loop-less : tie.Need-loop-less Inv-loop μ-loop
+loop-less c = search needs
+
+loop-again : tie.Need-loop-again Inv-loop μ-loop
+loop-again c = c .before .before .before .before .loop .inv ∙ scan-miss (λ (j : ℕ). slotOccurs (c .before .before .before .before .before .before .args .file .now) (slotAt (c .before .before .before .before .before .before .args .file .now) j) (j + 1) (c .before .before .before .before .before .before .args .cte)) (λ (j : ℕ). true) false (c .before .before .before .before .loop .i) (c .before .before .before .before .before .before .args .cte) (c .before .before .before .loop-test .taken) (sym (c .before .slot-occurs .ensures ∙ ap (λ (s : ℕ). slotOccurs (c .before .before .before .before .before .before .args .file .now) s (c .before .before .before .before .loop .i + 1) (c .before .before .before .before .before .before .args .cte)) (c .before .before .slot-at .ensures)) ∙ c .if1 .left)
+
+returns-2 : tie.Need-returns-2 Inv-loop μ-loop
+returns-2 c = sym (c .before .loop .inv ∙ scan-end (λ (j : ℕ). slotOccurs (c .before .before .before .args .file .now) (slotAt (c .before .before .before .args .file .now) j) (j + 1) (c .before .before .before .args .cte)) (λ (j : ℕ). true) false (c .before .loop .i) (c .before .before .before .args .cte) (c .loop-test .left))
+
+pub shares-slot-spec : {M : Type 1} → statement M
+shares-slot-spec =
+    tie.close
+    (tie.spec
+    Inv-loop
+    μ-loop
+    loop-holds
+    slot-at-requires
+    add-slot-occurs
+    slot-occurs-requires
+    returns
+    add-i
+    loop-less
+    loop-again
+    returns-2)

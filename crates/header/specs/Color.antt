@@ -1,0 +1,56 @@
+-- "Colours": the color of a pixel value in a file, as the paper's numbers.
+use Prim.Native.Nat.{ℕ, _+_, _-_, _*_}
+use mathlib.Core.Bool.{cond}
+use mathlib.Core.List.{List}
+use lib.Dec.{eqb, ltb}
+use Rattle.units.specs.LittleEndian.{byteAt, u16At}
+use Rattle.units.specs.Scan.{scan}
+use Rattle.header.specs.declared.color.ColorAnswer.{ColorAnswer}
+use Rattle.header.specs.declared.color.ColorAnswer.the-variants.{Rejected, Found}
+use Rattle.header.specs.Fields.{fieldsOf}
+use Rattle.header.specs.Rejections.{rejection, entryStart, slotAt}
+
+-- the number of the rejection or 0, and the three parts
+pub record ColorNumbers : Type 0 where
+  pub number : ℕ
+  pub red : ℕ
+  pub green : ℕ
+  pub blue : ℕ
+
+abbrev pub color : ℕ → ℕ → ℕ → ColorNumbers
+color r g b = record { number = 0; red = r; green = g; blue = b }
+
+abbrev pub noColor : ℕ → ColorNumbers
+noColor n = record { number = n; red = 0; green = 0; blue = 0 }
+
+-- without a table: the identity
+abbrev pub grayColor : ℕ → ColorNumbers
+grayColor v = cond (ltb 255 v) (noColor 25) (color (256 * v) (256 * v) (256 * v))
+
+-- IGDS: 256 triples of bytes from byte 768
+abbrev pub igdsColor : List ℕ → ℕ → ColorNumbers
+igdsColor f v =
+    cond (ltb 255 v) (noColor 25)
+    (color (256 * byteAt f (768 + 3 * v)) (256 * byteAt f (768 + 3 * v + 1)) (256 * byteAt f (768 + 3 * v + 2)))
+
+-- Environ-V: the entry that has the value as its slot, as stored
+abbrev pub entryColor : List ℕ → ℕ → ColorNumbers
+entryColor f i = color (u16At f (entryStart i + 2)) (u16At f (entryStart i + 4)) (u16At f (entryStart i + 6))
+
+abbrev pub environColor : List ℕ → ℕ → ℕ → ColorNumbers
+environColor f n v = scan (λ i. eqb (slotAt f i) v) (entryColor f) (noColor 25) 0 (n - 0)
+
+-- the color of a value by the file's table
+abbrev pub tableColor : List ℕ → ℕ → ColorNumbers
+tableColor f v =
+    cond (eqb (fieldsOf f .ctv) 0) (grayColor v)
+    (cond (eqb (fieldsOf f .ctv) 1) (igdsColor f v) (environColor f (fieldsOf f .cte) v))
+
+-- the color of a value in a file
+abbrev pub colorReading : List ℕ → ℕ → ColorNumbers
+colorReading f v = cond (eqb (rejection f) 0) (tableColor f v) (noColor (rejection f))
+
+-- the paper's numbers of an answer
+abbrev pub colorNumbers : ColorAnswer → ColorNumbers
+colorNumbers (Rejected n) = noColor n
+colorNumbers (Found c) = color (c .red) (c .green) (c .blue)

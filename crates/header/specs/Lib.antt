@@ -1,0 +1,5 @@
+pub mod Fields
+pub mod Rejections
+pub mod Reading
+pub mod Color
+pub mod Accepted

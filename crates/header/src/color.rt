@@ -1,0 +1,94 @@
+// The color of a pixel value, by the file's color table.
+ghost use mathlib.Core.Path.{_≡_};
+ghost use Rattle.header.specs.Color.{colorNumbers, colorReading, grayColor, igdsColor, environColor, entryColor};
+use crate::fields::fields_of;
+use crate::rejection::entry_start;
+use crate::rejection::rejection_of;
+use crate::rejection::slot_at;
+use units::byte_at;
+use units::u16_at;
+
+pub struct Rgb {
+    pub red: u16,
+    pub green: u16,
+    pub blue: u16,
+}
+
+// A rejection has its number in the table of rejections: a file's, or 25 where the value has no color.
+pub enum ColorAnswer {
+    Rejected(u16),
+    Found(Rgb),
+}
+
+// The color of a pixel value in a file.
+pub fn color_of(file: &[u8], value: u32) -> ColorAnswer
+    ensures { λ r. ⌜ colorNumbers r ≡ colorReading (now (file .entry)) value ⌝ }
+{
+    let number = rejection_of(file);
+    if number != 0 {
+        return ColorAnswer::Rejected(number);
+    }
+    let h = fields_of(file);
+    if h.ctv == 0 {
+        return gray_color(value);
+    }
+    if h.ctv == 1 {
+        return igds_color(file, value);
+    }
+    environ_color(file, h.cte as u16, value)
+}
+
+// The colors of a file without a table: shades of gray.
+fn gray_color(value: u32) -> ColorAnswer
+    ensures { λ r. ⌜ colorNumbers r ≡ grayColor value ⌝ }
+{
+    if 255 < value {
+        return ColorAnswer::Rejected(25);
+    }
+    let part = 256 * (value as u16);
+    ColorAnswer::Found(Rgb {
+        red: part,
+        green: part,
+        blue: part,
+    })
+}
+
+fn igds_color(file: &[u8], value: u32) -> ColorAnswer
+    ensures { λ r. ⌜ colorNumbers r ≡ igdsColor (now (file .entry)) value ⌝ }
+{
+    if 255 < value {
+        return ColorAnswer::Rejected(25);
+    }
+    let at = 768 + 3 * (value as usize);
+    ColorAnswer::Found(Rgb {
+        red: 256 * (byte_at(file, at) as u16),
+        green: 256 * (byte_at(file, at + 1) as u16),
+        blue: 256 * (byte_at(file, at + 2) as u16),
+    })
+}
+
+// The color of the first entry that has the value as its slot.
+fn environ_color(file: &[u8], cte: u16, value: u32) -> ColorAnswer
+    ensures { λ r. ⌜ colorNumbers r ≡ environColor (now (file .entry)) cte value ⌝ }
+{
+    let mut i: u16 = 0;
+    while i < cte {
+        if slot_at(file, i) as u32 == value {
+            return entry_color(file, i);
+        }
+        i += 1;
+    }
+    ColorAnswer::Rejected(25)
+}
+
+// The color of entry i, from 0: the three words after its slot.
+fn entry_color(file: &[u8], i: u16) -> ColorAnswer
+    ensures { λ r. ⌜ colorNumbers r ≡ entryColor (now (file .entry)) i ⌝ }
+{
+    let at = entry_start(i);
+    ColorAnswer::Found(Rgb {
+        red: u16_at(file, at + 2),
+        green: u16_at(file, at + 4),
+        blue: u16_at(file, at + 6),
+    })
+}

@@ -1,0 +1,182 @@
+// The rejections of a file, in the order of the table. Each function answers the number of the first row of its part of
+// the table that holds, or 0.
+ghost use mathlib.Core.Path.{_≡_};
+ghost use Rattle.units.specs.Rows.{first};
+ghost use Rattle.header.specs.Rejections.{frameRows, fieldRows, tableRows, isDataType, rejection, sharesSlot, slotOccurs, entryStart, slotAt};
+use crate::fields::Fields;
+use crate::fields::fields_of;
+use crate::fields::header_blocks;
+use units::Words;
+use units::blocks_to_bytes;
+use units::blocks_to_words;
+use units::u16_at;
+use units::words_to_bytes;
+
+// The number a file is rejected with, or 0.
+pub fn rejection_of(file: &[u8]) -> u16
+    ensures { λ r. ⌜ r ≡ rejection (now (file .entry)) ⌝ }
+{
+    let h = fields_of(file);
+    let frame = frame_rejection(file.len(), h);
+    if frame != 0 {
+        return frame;
+    }
+    let field = field_rejection(h);
+    if field != 0 {
+        return field;
+    }
+    table_rejection(file, h)
+}
+
+// 10 to 15: the file's length, the header's marks and its length.
+fn frame_rejection(size: usize, h: Fields) -> u16
+    ensures { λ r. ⌜ r ≡ first (frameRows size h) ⌝ }
+{
+    let blocks = header_blocks(h);
+    let words = blocks_to_words(blocks);
+    let bytes = blocks_to_bytes(blocks);
+    if 2147483647 < size {
+        return 10;
+    }
+    if size < 1024 {
+        return 11;
+    }
+    if h.htc != 0x0908 {
+        return 12;
+    }
+    if words.0 != (h.wtf as u32) + 2 {
+        return 13;
+    }
+    if blocks.0 < 2 {
+        return 13;
+    }
+    if size < bytes.0 {
+        return 14;
+    }
+    if h.ver != 3 {
+        return 15;
+    }
+    0
+}
+
+// 16 to 20: fields within their limits.
+fn field_rejection(h: Fields) -> u16
+    ensures { λ r. ⌜ r ≡ first (fieldRows h) ⌝ }
+{
+    if !is_data_type(h.dtc) {
+        return 16;
+    }
+    if 7 < h.slo {
+        return 17;
+    }
+    if 1 < h.scn {
+        return 18;
+    }
+    if h.ppl == 0 {
+        return 19;
+    }
+    if 65535 < h.ppl {
+        return 19;
+    }
+    if h.nol == 0 {
+        return 20;
+    }
+    if 65535 < h.nol {
+        return 20;
+    }
+    0
+}
+
+fn is_data_type(dtc: u16) -> bool
+    ensures { λ r. ⌜ r ≡ isDataType dtc ⌝ }
+{
+    if dtc == 2 {
+        return true;
+    }
+    if dtc == 3 {
+        return true;
+    }
+    if dtc == 9 {
+        return true;
+    }
+    if dtc == 10 {
+        return true;
+    }
+    false
+}
+
+// 21 and 22: a color table of a known kind, within the header, whose slots are distinct.
+fn table_rejection(file: &[u8], h: Fields) -> u16
+    ensures { λ r. ⌜ r ≡ first (tableRows (now (file .entry)) h) ⌝ }
+{
+    let blocks = header_blocks(h);
+    if 2 < h.ctv {
+        return 21;
+    }
+    if h.ctv == 0 {
+        return 0;
+    }
+    if h.ctv == 1 {
+        if blocks.0 < 3 {
+            return 21;
+        }
+        return 0;
+    }
+    if h.cte == 0 {
+        return 21;
+    }
+    if 256 < h.cte {
+        return 21;
+    }
+    let entries = h.cte as u16;
+    let bytes = blocks_to_bytes(blocks);
+    let end = entry_start(entries);
+    if bytes.0 < end {
+        return 21;
+    }
+    if shares_slot(file, entries) {
+        return 22;
+    }
+    0
+}
+
+// The byte where the Environ-V entry i, from 0, starts. Each entry is four words.
+pub fn entry_start(i: u16) -> usize
+    ensures { λ r. ⌜ r ≡ entryStart i ⌝ }
+{
+    768 + words_to_bytes(Words(4 * (i as u32))).0
+}
+
+pub fn slot_at(file: &[u8], i: u16) -> u16
+    ensures { λ r. ⌜ r ≡ slotAt (now (file .entry)) i ⌝ }
+{
+    u16_at(file, entry_start(i))
+}
+
+// 22: whether two of the entries share a slot.
+fn shares_slot(file: &[u8], cte: u16) -> bool
+    ensures { λ r. ⌜ r ≡ sharesSlot (now (file .entry)) cte ⌝ }
+{
+    let mut i: u16 = 0;
+    while i < cte {
+        if slot_occurs(file, slot_at(file, i), i + 1, cte) {
+            return true;
+        }
+        i += 1;
+    }
+    false
+}
+
+// Whether an entry from the one numbered `from` on has this slot.
+fn slot_occurs(file: &[u8], slot: u16, from: u16, cte: u16) -> bool
+    ensures { λ r. ⌜ r ≡ slotOccurs (now (file .entry)) slot from cte ⌝ }
+{
+    let mut i = from;
+    while i < cte {
+        if slot_at(file, i) == slot {
+            return true;
+        }
+        i += 1;
+    }
+    false
+}

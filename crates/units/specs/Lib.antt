@@ -1,0 +1,4 @@
+pub mod Counts
+pub mod LittleEndian
+pub mod Rows
+pub mod Scan
