@@ -1,5 +1,4 @@
 pub mod Fields
 pub mod Rejections
 pub mod Reading
-pub mod Color
 pub mod Accepted

@@ -1,16 +1,16 @@
-// The header of an Intergraph raster file: its fields, the rejections of a file, and the colors of pixel values.
+// The header of an Intergraph raster file: its fields and the rejections of a file.
 //
 // Nothing is asked of a file: each function decides for any slice of bytes. The raster data are not looked at.
-mod color;
 mod fields;
 mod rejection;
 
-pub use color::ColorAnswer;
-pub use color::Rgb;
-pub use color::color_of;
 pub use fields::Fields;
 pub use fields::Header;
 pub use fields::HeaderAnswer;
 pub use fields::Resolution;
+pub use fields::fields_of;
+pub use fields::header_blocks;
 pub use fields::read_header;
+pub use rejection::entry_start;
 pub use rejection::rejection_of;
+pub use rejection::slot_at;

@@ -1,6 +1,6 @@
 use borrow.Author.Needs.{needs}
-use Rattle.header.proofs.color.entry_color.Statement.{statement}
-use Rattle.header.proofs.color.entry_color.Tie as tie
+use Rattle.color.proofs.entry_color.Statement.{statement}
+use Rattle.color.proofs.entry_color.Tie as tie
 
 entry-start-requires : tie.Need-entry-start-requires
 entry-start-requires c κs = search needs

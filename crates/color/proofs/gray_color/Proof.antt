@@ -1,7 +1,7 @@
 use borrow.Author.Tests.{lt-ltb, le-ltb}
 use borrow.Author.Needs.{needs}
-use Rattle.header.proofs.color.gray_color.Statement.{statement}
-use Rattle.header.proofs.color.gray_color.Tie as tie
+use Rattle.color.proofs.gray_color.Statement.{statement}
+use Rattle.color.proofs.gray_color.Tie as tie
 
 returns : tie.Need-returns
 returns c = simp (lt-ltb _ _ (c .if1 .taken))

@@ -4,13 +4,13 @@ use mathlib.Core.List.{List}
 use Prim.Native.Nat.{ℕ, _≤_}
 use mathlib.Core.Path.{_≡_, sym, _∙_, ap}
 use borrow.Author.Needs.{needs}
-use Rattle.header.specs.Color.{ColorNumbers, colorReading, noColor, grayColor, igdsColor, environColor}
+use Rattle.color.specs.Color.{ColorNumbers, colorReading, noColor, grayColor, igdsColor, environColor}
 use Rattle.header.specs.Accepted.{Accepted, accepted}
 use Rattle.header.specs.Rejections.{rejection}
 use Rattle.header.specs.Fields.{fieldsOf}
 use Rattle.header.specs.declared.fields.Fields.{Fields}
-use Rattle.header.proofs.color.color_of.Statement.{statement}
-use Rattle.header.proofs.color.color_of.Tie as tie
+use Rattle.color.proofs.color_of.Statement.{statement}
+use Rattle.color.proofs.color_of.Tie as tie
 
 -- the color by each kind of table, of a file that is not rejected
 module _ (f : List ℕ) (v : ℕ) {n : ℕ} {h : Fields} (number : n ≡ rejection f) (none : n ≡ 0) (read : h ≡ fieldsOf f) where

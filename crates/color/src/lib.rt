@@ -1,10 +1,10 @@
-// The color of a pixel value, by the file's color table.
+// The color of a pixel value in a file, by the file's color table.
 ghost use mathlib.Core.Path.{_≡_};
-ghost use Rattle.header.specs.Color.{colorNumbers, colorReading, grayColor, igdsColor, environColor, entryColor};
-use crate::fields::fields_of;
-use crate::rejection::entry_start;
-use crate::rejection::rejection_of;
-use crate::rejection::slot_at;
+ghost use Rattle.color.specs.Color.{colorNumbers, colorReading, grayColor, igdsColor, environColor, entryColor};
+use header::entry_start;
+use header::fields_of;
+use header::rejection_of;
+use header::slot_at;
 use units::byte_at;
 use units::u16_at;
 

@@ -5,10 +5,10 @@ use mathlib.Core.List.{List}
 use lib.Dec.{eqb, ltb}
 use Rattle.units.specs.LittleEndian.{byteAt, u16At}
 use Rattle.units.specs.Scan.{scan}
-use Rattle.header.specs.declared.color.ColorAnswer.{ColorAnswer}
-use Rattle.header.specs.declared.color.ColorAnswer.the-variants.{Rejected, Found}
+use Rattle.color.specs.declared.ColorAnswer.{ColorAnswer}
+use Rattle.color.specs.declared.ColorAnswer.the-variants.{Rejected, Found}
 use Rattle.header.specs.Fields.{fieldsOf}
 use Rattle.header.specs.Rejections.{rejection, entryStart, slotAt}
 
 -- the number of the rejection or 0, and the three parts
 pub record ColorNumbers : Type 0 where

@@ -3,11 +3,11 @@ use borrow.Author.Tests.{eq-eqb, ne-eqb}
 use borrow.Author.Needs.{needs}
 use Prim.Native.Nat.{ℕ, _-_}
 use mathlib.Core.Path.{_≡_, refl, sym, _∙_}
-use Rattle.header.specs.Color.{environColor, entryColor, noColor}
+use Rattle.color.specs.Color.{environColor, entryColor, noColor}
 use Rattle.header.specs.Rejections.{slotAt}
 use Rattle.units.specs.Scan.{scan, scan-hit, scan-miss, scan-end}
-use Rattle.header.proofs.color.environ_color.Statement.{statement}
-use Rattle.header.proofs.color.environ_color.Tie as tie
+use Rattle.color.proofs.environ_color.Statement.{statement}
+use Rattle.color.proofs.environ_color.Tie as tie
 
 abbrev Inv-loop : tie.InvT-loop
 Inv-loop file cte value i₀ i = environColor file cte value ≡ scan (λ (j : ℕ). eqb (slotAt file j) value) (entryColor file) (noColor 25) i (cte - i)

@@ -1,0 +1,45 @@
+// Text put piece by piece into a lent buffer, for programs that print a line at a time.
+//
+// Each function puts its text at a position and answers the position after it. Where the text does not fit, nothing is
+// stored and the position stays.
+ghost use mathlib.Core.Path.{_≡_};
+ghost use Prim.Native.Nat.{_-_, _≤_};
+ghost use lib.ListN.{length};
+ghost use lib.Seq.{paste};
+ghost use Rattle.io.specs.Digits.{digits, Fewest};
+ghost use Rattle.text.specs.Put.{putAt, nextAt, DecimalPut};
+
+pub fn put(out: &mut [u8], at: usize, text: &[u8]) -> usize
+    ensures { λ r. ⌜ r ≡ nextAt (now (out .entry)) at (now (text .entry)) ⌝ }
+    ensures { λ r. ⌜ now (out .exit) ≡ putAt (now (out .entry)) at (now (text .entry)) ⌝ }
+{
+    if out.len() < at {
+        return at;
+    }
+    if out.len() - at < text.len() {
+        return at;
+    }
+    copy(out, at, text);
+    at + text.len()
+}
+
+// Puts the decimal digits of a number, as few as hold it.
+pub fn put_decimal(out: &mut [u8], at: usize, n: u64) -> usize
+    ensures { λ r. ⌜ DecimalPut (now (out .entry)) at n r (now (out .exit)) ⌝ }
+{
+    let mut digits = [0u8; 20];
+    let k = io::decimal(n, &mut digits);
+    put(out, at, &digits[..k])
+}
+
+fn copy(out: &mut [u8], at: usize, text: &[u8])
+    requires { ⌜ at ≤ length (now out) ⌝ }
+    requires { ⌜ length (now text) ≤ length (now out) - at ⌝ }
+    ensures { λ _. ⌜ now (out .exit) ≡ paste (now (out .entry)) at (now (text .entry)) (length (now (text .entry))) ⌝ }
+{
+    let mut i = 0;
+    while i < text.len() {
+        out[at + i] = text[i];
+        i += 1;
+    }
+}
