@@ -8,6 +8,8 @@ mod little_endian;
 pub use little_endian::byte_at;
 pub use little_endian::u16_at;
 pub use little_endian::u32_at;
+pub use little_endian::word_count;
+pub use little_endian::word_start;
 ghost use mathlib.Core.Path.{_≡_};
 ghost use Rattle.units.specs.Counts.{wordsOfBlocks, bytesOfBlocks, bytesOfWords};
 

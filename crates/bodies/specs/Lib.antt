@@ -1,0 +1,4 @@
+pub mod Statuses
+pub mod Pixels
+pub mod Extents
+pub mod Answers
