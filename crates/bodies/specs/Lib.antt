@@ -1,0 +1,5 @@
+pub mod Statuses
+pub mod Pixels
+pub mod Extents
+pub mod Answers
+pub mod RunLaws
