@@ -2,3 +2,4 @@ pub mod Statuses
 pub mod Pixels
 pub mod Extents
 pub mod Answers
+pub mod CopyLaws
