@@ -3,3 +3,4 @@ pub mod Pixels
 pub mod Extents
 pub mod Answers
 pub mod CopyLaws
+pub mod PairLaws
