@@ -6,15 +6,16 @@ use mathlib.Core.Logic.{_⊎_, inl, inr}
 use mathlib.Core.List.{List, [], _∷_, _++_, append-assoc, append-nil}
 use native.Mathlib.Omega.{arith}
 use borrow.Author.Tests.{lt-ltb, le-ltb, eq-eqb, ne-eqb, ltb-false, eqb-true, eqb-false, not-true}
-use borrow.Rule.Slice.PartMut.{putMid, midOf, postOf, mid-len}
+use borrow.Rule.Slice.PartMut.{putMid, midOf}
 use lib.ListN.{length, take, drop, replicate, length-append, length-replicate}
-use lib.Seq.{length-take-le, take-at, take-length}
+use lib.Seq.{take-length}
 use lib.Dec.{ltb, eqb}
 use Rattle.units.specs.LittleEndian.{u16At}
 use Rattle.units.specs.Rows.{first, none-holds}
 use Rattle.units.specs.Words.{words, wordCount, words-step, words-none}
 use Rattle.bodies.specs.Pixels.{runPixels, runTotal}
 use Rattle.bodies.specs.Statuses.{runRows}
+use Rattle.bodies.specs.CopyLaws.{filled-more}
 use Rattle.bodies.specs.Extents.{ExtentNumbers, taken, fault, runsFrom, runExtent}
 
 -- the pixels from byte i on: one run and the rest, or none
@@ -65,27 +66,13 @@ module _ (b : List ℕ) (p : ℕ) where
       let n = none-holds (runRows b p) tt e in
       omega (arith, ltb-false p (runTotal (words b)) (n .1 .0), ltb-false (runTotal (words b)) p (n .1 .1 .0))
 
--- n places of a row from `at` on were lent, and came back as ys, filled with v
-pub take-filled : (at n v : ℕ) (row ys : List ℕ) → at + n ≤ length row
-    → ys ≡ replicate (length (midOf at ((at + n) - at) row)) v
-    → take (at + n) (putMid at ((at + n) - at) row ys) ≡ take at row ++ replicate n v
-take-filled at n v row ys h f =
-    let k : (at + n) - at ≡ n = omega arith in
-    let y : ys ≡ replicate n v = f ∙ ap (λ (m : ℕ). replicate m v) (mid-len at (at + n) row h ∙ k) in
-    let a : at ≤ length row = omega arith in
-    let l : length (take at row ++ ys) ≡ at + n =
-    omega (arith, length-append (take at row) ys, length-take-le at row a, ap length y, length-replicate n v) in
-    ap (take (at + n)) (sym (append-assoc (take at row) ys (postOf at ((at + n) - at) row)))
-    ∙ take-at (take at row ++ ys) (postOf at ((at + n) - at) row) (at + n) l
-    ∙ ap (λ (z : List ℕ). take at row ++ z) y
-
 -- a turn of the painter: what is painted, followed by what is to come, stays as it was
 pub paint-step : (b : List ℕ) (i at n v : ℕ) (row ys : List ℕ) → i + 2 ≤ length b → n ≡ u16At b i → at + n ≤ length row
     → ys ≡ replicate (length (midOf at ((at + n) - at) row)) v
     → take (at + n) (putMid at ((at + n) - at) row ys) ++ runPixels (1 - v) (words (drop (i + 2) b))
     ≡ take at row ++ runPixels v (words (drop i b))
 paint-step b i at n v row ys h e g f =
-    rw (take-filled at n v row ys g f, e, pixels-step b i v h)
+    rw (filled-more row ys at n v g f, e, pixels-step b i v h)
     (append-assoc (take at row) (replicate (u16At b i) v) (runPixels (1 - v) (words (drop (i + 2) b))))
 
 -- its end: nothing is to come

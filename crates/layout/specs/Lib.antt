@@ -1,0 +1,3 @@
+pub mod Scanline
+pub mod Chain
+pub mod Reading
