@@ -1,38 +1,23 @@
 -- Laws of one scanline: its header, where it is lost, its status, the row's length and the bytes that it uses.
-use Prim.Native.Nat.{ℕ, _+_, _-_, _≤_, _<_}
+use Prim.Native.Nat.{ℕ, _+_, _-_, _%_, _≤_, _<_}
 use mathlib.Core.Path.{_≡_, refl, sym, _∙_, ap}
-use mathlib.Core.Bool.{Bool, true, false, not, cond}
+use mathlib.Core.Bool.{Bool, true, false, cond}
 use mathlib.Core.List.{List, [], _∷_, _++_}
 use native.Mathlib.Omega.{arith}
 use lib.ListN.{length, take, drop, replicate, length-append, length-take, length-drop, length-replicate}
 use lib.Seq.{getD-take, length-take-le}
-use lib.Dec.{eqb, ltb}
-use borrow.Author.Tests.{lt-ltb, le-ltb, eq-eqb, ne-eqb, ltb-false, eqb-true, not-true, not-false}
+use lib.Dec.{T, eqb, ltb}
+use borrow.Author.Tests.{lt-ltb, le-ltb, eq-eqb, ne-eqb, ltb-false, eqb-true, eqb-false, not-false}
 use Rattle.units.specs.LittleEndian.{byteAt, u16At}
-use Rattle.units.specs.Rows.{row, first, NoneHolds, none-holds, first-here, first-later}
+use Rattle.units.specs.Rows.{Row, row, first, numbered, NoneHolds, none-holds, first-here, first-later}
 use Rattle.units.specs.Words.{words, wordCount, wordBytes, length-words}
 use Rattle.bodies.specs.Pixels.{bytePixels, wordPixels, runPixels, pairPixels, pairTotal}
 use Rattle.bodies.specs.Statuses.{byteRows, wordRows, runRows, pairRows, rowOf}
 use Rattle.bodies.specs.Extents.{ExtentNumbers, taken, fault, byteExtent, wordExtent, runExtent, pairExtent}
-use Rattle.bodies.specs.CopyLaws.{words-take}
+use Rattle.bodies.specs.CopyLaws.{words-taken}
 use Rattle.bodies.specs.RunLaws.{length-runPixels, status-total, extent-within, extent-total}
 use Rattle.bodies.specs.PairLaws.{pairs-fit, pairs-taken}
-use Rattle.layout.specs.Scanline.{
-  bodyRows,
-  bodyPixels,
-  bodyExtent,
-  headOf,
-  following,
-  bodySize,
-  headRows,
-  bodyOf,
-  lostRows,
-  fieldRows,
-  reading,
-  isLost,
-  openLost,
-  lineOf,
-}
+use Rattle.layout.specs.Scanline.{bodyRows, bodyPixels, bodyExtent, headOf, following, bodySize, headRows, bodyOf, lostRows, fieldRows, reading, isLost, openLost, headedLine, openLine, lineOf}
 
 -- the header's fields, where they stand in the bytes that are left
 module _ (rest : List ℕ) where
@@ -174,3 +159,121 @@ module _ (t p number : ℕ) (hd body : List ℕ) where
   pub row-by-status : {n : ℕ} → reading t p number hd body .status ≡ n → reading t p number hd body .row ≡ rowOf n p (bodyPixels t body p)
   unfolding reading
   row-by-status e = ap (λ (s : ℕ). rowOf s p (bodyPixels t body p)) e
+
+-- the status 0 says that no part of the table has one
+both-none : (a b : List Row) → T (numbered a) → first (a ++ b) ≡ 0 → (first a ≡ 0) × (first b ≡ 0)
+both-none a b n h = go (eqb (first a) 0) refl
+  where
+    go : (s : Bool) → eqb (first a) 0 ≡ s → (first a ≡ 0) × (first b ≡ 0)
+    go true e = let z : first a ≡ 0 = eqb-true (first a) 0 e in (z, sym (first-later a b n z) ∙ h)
+    go false e = let s : first a ≡ 0 → ⊥ = eqb-false (first a) 0 e in absurd (s (sym (first-here a b s) ∙ h))
+
+pub record Good (t p number : ℕ) (hd b : List ℕ) : Type 0 where
+  pub frame : first (lostRows hd b) ≡ 0
+  pub fields : first (fieldRows number hd) ≡ 0
+  pub body : first (bodyRows t b p) ≡ 0
+
+pub good : (t p number : ℕ) (hd body : List ℕ) → reading t p number hd body .status ≡ 0 → Good t p number hd body
+unfolding reading
+good t p number hd body h =
+    let a = both-none (lostRows hd body) (fieldRows number hd ++ bodyRows t body p) tt h in
+    let b = both-none (fieldRows number hd) (bodyRows t body p) tt (a .1) in
+    record { frame = a .0; fields = b .0; body = b .1 }
+
+-- a body with the status 0 has as many pixels as the row
+length-pairPixels : (ws : List ℕ) → length (pairPixels ws) ≡ pairTotal ws
+unfolding pairPixels pairTotal
+length-pairPixels [] = refl
+length-pairPixels (v ∷ []) = refl
+length-pairPixels (v ∷ (n ∷ ws)) =
+    rw (length-append (replicate n v) (pairPixels ws), length-replicate n v, length-pairPixels ws)
+
+pub body-pixels : (t p : ℕ) (b : List ℕ) → first (bodyRows t b p) ≡ 0 → length (bodyPixels t b p) ≡ p
+unfolding bodyRows bodyPixels
+body-pixels t p b = by-type (eqb t 2) (eqb t 3) (eqb t 9)
+  where
+    by-type : (x y z : Bool) → first (cond x (byteRows b p) (cond y (wordRows b p) (cond z (runRows b p) (pairRows b p)))) ≡ 0
+        → length (cond x (bytePixels b p) (cond y (wordPixels b p) (cond z (runPixels 0 (words b)) (pairPixels (words b))))) ≡ p
+    by-type true y z h =
+        let n : length b ≡ p + p % 2 = eqb-true (length b) (p + p % 2) (not-false (eqb (length b) (p + p % 2)) (none-holds (byteRows b p) tt h .0)) in
+        length-take-le p b (omega arith)
+    by-type false true z h =
+        let n : wordCount b ≡ p = eqb-true (wordCount b) p (not-false (eqb (wordCount b) p) (none-holds (wordRows b p) tt h .0)) in
+        length-take-le p (words b) (omega (arith, length-words b))
+    by-type false false true h = length-runPixels 0 (words b) ∙ status-total b p h
+    by-type false false false h = length-pairPixels (words b) ∙ pairs-fit b p h
+
+-- without a header: what is taken where there is no fault
+no-fault : (s : Bool) (n : ℕ) → cond s (fault 1) (taken n) .status ≡ 0 → s ≡ false
+no-fault true n h = absurd (omega arith)
+no-fault false n h = refl
+
+pub body-taken : (t p : ℕ) (r : List ℕ) → bodyExtent t r p .status ≡ 0
+    → (bodyExtent t r p .used ≤ length r) × (length (bodyPixels t (take (bodyExtent t r p .used) r) p) ≡ p)
+unfolding bodyExtent bodyPixels
+body-taken t p r = by-type (eqb t 2) (eqb t 3) (eqb t 9)
+  where
+    extent : Bool → Bool → Bool → ExtentNumbers
+    extent x y z = cond x (byteExtent r p) (cond y (wordExtent r p) (cond z (runExtent r p) (pairExtent r p)))
+
+    pixels : Bool → Bool → Bool → List ℕ → List ℕ
+    pixels x y z b = cond x (bytePixels b p) (cond y (wordPixels b p) (cond z (runPixels 0 (words b)) (pairPixels (words b))))
+
+    by-type : (x y z : Bool) → extent x y z .status ≡ 0
+        → (extent x y z .used ≤ length r) × (length (pixels x y z (take (extent x y z .used) r)) ≡ p)
+    by-type true y z h =
+        let e : ltb (length r) p ≡ false = no-fault (ltb (length r) p) p h in
+        let n : p ≤ length r = ltb-false (length r) p e in
+        rw e (n, length-take-le p (take p r) (omega (arith, length-take-le p r n)))
+    by-type false true z h =
+        let e : ltb (wordCount r) p ≡ false = no-fault (ltb (wordCount r) p) (wordBytes p) h in
+        let n : p ≤ wordCount r = ltb-false (wordCount r) p e in
+        rw e (omega arith, ap length (words-taken r p) ∙ length-take-le p (words r) (omega (arith, length-words r)))
+    by-type false false true h = (
+      extent-within r p (runExtent r p) refl h,
+      length-runPixels 0 (words (take (runExtent r p .used) r)) ∙ extent-total r p (runExtent r p) refl h,
+    )
+    by-type false false false h =
+        let w = pairs-taken r p (pairExtent r p) refl h in
+        (w .0, length-pairPixels (words (take (pairExtent r p .used) r)) ∙ w .1)
+
+-- A scanline uses no more than the bytes that are left, and none where it is lost. Its row has the length that is asked for.
+cond-within : (s : Bool) (n m : ℕ) → (s ≡ false → n ≤ m) → cond s 0 n ≤ m
+cond-within true n m h = omega arith
+cond-within false n m h = h refl
+
+rowOf-length : (n p : ℕ) (xs : List ℕ) → (n ≡ 0 → length xs ≡ p) → length (rowOf n p xs) ≡ p
+rowOf-length n p xs h = go (eqb n 0) refl
+  where
+    go : (s : Bool) → eqb n 0 ≡ s → length (cond s xs (replicate p 0)) ≡ p
+    go true e = h (eqb-true n 0 e)
+    go false e = length-replicate p 0
+
+module _ (scn t p number : ℕ) (rest : List ℕ) where
+  pub used-within : lineOf scn t p number rest .used ≤ length rest
+  used-within = go (eqb scn 1)
+    where
+      go : (s : Bool) → cond s (headedLine t p number rest) (openLine t p rest) .used ≤ length rest
+      go true = cond-within (isLost rest) (4 + wordBytes (following (headOf rest))) (length rest) (λ e. kept rest e .within)
+      go false =
+          cond-within (openLost t p rest) (bodyExtent t rest p .used) (length rest) (λ e. body-taken t p rest (open-kept t p rest e) .0)
+
+  pub lost-used : lineOf scn t p number rest .lost ≡ true → lineOf scn t p number rest .used ≡ 0
+  lost-used = go (eqb scn 1)
+    where
+      go : (s : Bool) → cond s (headedLine t p number rest) (openLine t p rest) .lost ≡ true
+          → cond s (headedLine t p number rest) (openLine t p rest) .used ≡ 0
+      go true e = rw e
+      go false e = rw e
+
+  pub length-row : length (lineOf scn t p number rest .reading .row) ≡ p
+  length-row = go (eqb scn 1)
+    where
+      go : (s : Bool) → length (cond s (headedLine t p number rest) (openLine t p rest) .reading .row) ≡ p
+      go true =
+          ap length (row-by-status t p number (headOf rest) (bodyOf rest) refl)
+          ∙ rowOf-length (reading t p number (headOf rest) (bodyOf rest) .status) p (bodyPixels t (bodyOf rest) p)
+          (λ e. body-pixels t p (bodyOf rest) (good t p number (headOf rest) (bodyOf rest) e .body))
+      go false =
+          rowOf-length (bodyExtent t rest p .status) p (bodyPixels t (take (bodyExtent t rest p .used) rest) p)
+          (λ e. body-taken t p rest e .1)
