@@ -9,7 +9,7 @@ use lib.Seq.{getD-take, length-take-le}
 use lib.Dec.{T, eqb, ltb}
 use borrow.Author.Tests.{lt-ltb, le-ltb, eq-eqb, ne-eqb, ltb-false, eqb-true, eqb-false, not-false}
 use Rattle.units.specs.LittleEndian.{byteAt, u16At}
-use Rattle.units.specs.Rows.{Row, row, first, numbered, NoneHolds, none-holds, first-here, first-later}
+use Rattle.units.specs.Rows.{row, first, NoneHolds, none-holds, first-here, first-later, both-none}
 use Rattle.units.specs.Words.{words, wordCount, wordBytes, length-words}
 use Rattle.bodies.specs.Pixels.{bytePixels, wordPixels, runPixels, pairPixels, pairTotal}
 use Rattle.bodies.specs.Statuses.{byteRows, wordRows, runRows, pairRows, rowOf}
@@ -160,14 +160,7 @@ module _ (t p number : ℕ) (hd body : List ℕ) where
   unfolding reading
   row-by-status e = ap (λ (s : ℕ). rowOf s p (bodyPixels t body p)) e
 
--- the status 0 says that no part of the table has one
-both-none : (a b : List Row) → T (numbered a) → first (a ++ b) ≡ 0 → (first a ≡ 0) × (first b ≡ 0)
-both-none a b n h = go (eqb (first a) 0) refl
-  where
-    go : (s : Bool) → eqb (first a) 0 ≡ s → (first a ≡ 0) × (first b ≡ 0)
-    go true e = let z : first a ≡ 0 = eqb-true (first a) 0 e in (z, sym (first-later a b n z) ∙ h)
-    go false e = let s : first a ≡ 0 → ⊥ = eqb-false (first a) 0 e in absurd (s (sym (first-here a b s) ∙ h))
-
+-- what the status 0 says
 pub record Good (t p number : ℕ) (hd b : List ℕ) : Type 0 where
   pub frame : first (lostRows hd b) ≡ 0
   pub fields : first (fieldRows number hd) ≡ 0

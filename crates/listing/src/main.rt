@@ -34,7 +34,14 @@ fn show(file: &[u8], r: RasterAnswer, pixels: &[u16], marks: &[u8]) {
     let h = header::fields_of(file);
     let size = put_size(&mut out, h.dtc, h.ppl, h.nol);
     let head = put_answer(&mut out, size, r);
-    let end = put_rows(&mut out, head, h.ppl as usize, h.nol as usize, pixels, marks);
+    let end = put_rows(
+        &mut out,
+        head,
+        h.ppl as usize,
+        h.nol as usize,
+        pixels,
+        marks,
+    );
     print(&out, end);
 }
 
@@ -69,7 +76,14 @@ fn put_answer(out: &mut [u8], from: usize, r: RasterAnswer) -> usize {
 }
 
 // Puts n rows of p pixels, as far as the buffers have them.
-fn put_rows(out: &mut [u8], start: usize, p: usize, n: usize, pixels: &[u16], marks: &[u8]) -> usize {
+fn put_rows(
+    out: &mut [u8],
+    start: usize,
+    p: usize,
+    n: usize,
+    pixels: &[u16],
+    marks: &[u8],
+) -> usize {
     let mut at = start;
     let mut from = 0;
     let mut k = 0;

@@ -1,5 +1,4 @@
--- Laws of the chain and of the buffers for the loop over scanlines. Assumes of one scanline only that its row is full and
--- that it lies within the file.
+-- Laws of the chain and of the buffers, for the loop over scanlines.
 use Prim.Native.Nat.{ℕ, zero, suc, _+_, _-_, _*_, _≤_, _<_, zero-le}
 use mathlib.Core.Path.{_≡_, refl, sym, _∙_, ap}
 use mathlib.Core.Bool.{Bool, true, false, not, cond, _&&_, false≢true}
@@ -14,13 +13,8 @@ use borrow.Rule.Slice.PartMut.{putMid, postOf, post-is}
 use Rattle.header.specs.Rejections.{rejection}
 use Rattle.header.specs.Accepted.{Accepted, accepted}
 use Rattle.layout.specs.Scanline.{Line, Reading, lineOf, headedLine, openLine, unreached}
+use Rattle.layout.specs.LineLaws.{used-within, lost-used, length-row as line-full}
 use Rattle.layout.specs.Chain.{pplOf, nolOf, scnOf, typeOf, numberOf, dataStart, lineAt, start, reached, readingAt, rows, statuses, good}
-
-abbrev pub RowsFull : Type 0
-RowsFull = (scn t p number : ℕ) (rest : List ℕ) → length (lineOf scn t p number rest .reading .row) ≡ p
-
-abbrev pub UsedWithin : Type 0
-UsedWithin = (scn t p number : ℕ) (rest : List ℕ) → lineOf scn t p number rest .used ≤ length rest
 
 -- a scanline after the chain has been followed to it
 pub start-next : (f : List ℕ) (k : ℕ) → start f (suc k) ≡ start f k + lineAt f (start f k) k .used
@@ -63,9 +57,9 @@ length-statuses f (suc k) =
     let e = length-append (statuses f k) (readingAt f k .status ∷ []) in
     omega (arith, e, length-statuses f k)
 
-module _ (full : RowsFull) (f : List ℕ) where
+module _ (f : List ℕ) where
   full-if : (k : ℕ) (b : Bool) → length (cond b (lineAt f (start f k) k .reading) (unreached (pplOf f)) .row) ≡ pplOf f
-  full-if k true = full (scnOf f) (typeOf f) (pplOf f) (numberOf f k) (drop (start f k) f)
+  full-if k true = line-full (scnOf f) (typeOf f) (pplOf f) (numberOf f k) (drop (start f k) f)
   full-if k false = length-replicate (pplOf f) 0
 
   pub length-row : (k : ℕ) → length (readingAt f k .row) ≡ pplOf f
@@ -82,12 +76,12 @@ module _ (full : RowsFull) (f : List ℕ) where
       ∙ sym (suc-mul k (pplOf f))
 
 -- every scanline starts within the file
-pub start-within : UsedWithin → (f : List ℕ) → dataStart f ≤ length f → (k : ℕ) → start f k ≤ length f
+pub start-within : (f : List ℕ) → dataStart f ≤ length f → (k : ℕ) → start f k ≤ length f
 unfolding start
-start-within within f h zero = h
-start-within within f h (suc k) =
-    let i : start f k ≤ length f = start-within within f h k in
-    omega (arith, within (scnOf f) (typeOf f) (pplOf f) (numberOf f k) (drop (start f k) f), length-drop (start f k) f, i)
+start-within f h zero = h
+start-within f h (suc k) =
+    let i : start f k ≤ length f = start-within f h k in
+    omega (arith, used-within (scnOf f) (typeOf f) (pplOf f) (numberOf f k) (drop (start f k) f), length-drop (start f k) f, i)
 
 -- at most k of the first k are good
 one-more : (b : Bool) (g k : ℕ) → g ≤ k → g + cond b 1 0 ≤ suc k
@@ -103,7 +97,7 @@ pub good-next : (f : List ℕ) (k : ℕ) → good f (suc k) ≡ good f k + cond 
 unfolding good
 good-next f k = refl
 
--- whether a scanline is lost does not go by its number, and a lost one uses no byte
+-- whether a scanline is lost does not go by its number
 lost-any : (scn t p m n : ℕ) (rest : List ℕ) → lineOf scn t p m rest .lost ≡ lineOf scn t p n rest .lost
 lost-any scn t p m n rest = go (eqb scn 1)
   where
@@ -111,22 +105,15 @@ lost-any scn t p m n rest = go (eqb scn 1)
     go true = refl
     go false = refl
 
-lost-unused : (scn t p n : ℕ) (rest : List ℕ) → lineOf scn t p n rest .lost ≡ true → lineOf scn t p n rest .used ≡ 0
-lost-unused scn t p n rest = go (eqb scn 1)
-  where
-    go : (b : Bool) → cond b (headedLine t p n rest) (openLine t p rest) .lost ≡ true → cond b (headedLine t p n rest) (openLine t p rest) .used ≡ 0
-    go true e = rw e
-    go false e = rw e
-
 -- Once the chain is lost, the scanline that is lost stands at every later start.
 stays : (f : List ℕ) (k : ℕ) → lineAt f (start f k) k .lost ≡ true → (start f (suc k) ≡ start f k) × (lineAt f (start f (suc k)) (suc k) .lost ≡ true)
 stays f k l =
-    let u : lineAt f (start f k) k .used ≡ 0 = lost-unused (scnOf f) (typeOf f) (pplOf f) (numberOf f k) (drop (start f k) f) l in
-    let s : start f (suc k) ≡ start f k = omega (arith, start-next f k, u) in
-    ( s
-    , ap (λ (x : ℕ). lineAt f x (suc k) .lost) s
-      ∙ lost-any (scnOf f) (typeOf f) (pplOf f) (numberOf f (suc k)) (numberOf f k) (drop (start f k) f)
-      ∙ l
+    let u : lineAt f (start f k) k .used ≡ 0 = lost-used (scnOf f) (typeOf f) (pplOf f) (numberOf f k) (drop (start f k) f) l in
+    let s : start f (suc k) ≡ start f k = omega (arith, start-next f k, u) in (
+      s,
+      ap (λ (x : ℕ). lineAt f x (suc k) .lost) s
+          ∙ lost-any (scnOf f) (typeOf f) (pplOf f) (numberOf f (suc k)) (numberOf f k) (drop (start f k) f)
+          ∙ l,
     )
 
 still-lost : (a lost : Bool) → (a && not lost) ≡ false → (a ≡ false → lost ≡ true) → lost ≡ true
@@ -157,11 +144,11 @@ pub record NextLost (f : List ℕ) (k : ℕ) : Type 0 where
 pub next-lost : (f : List ℕ) (k : ℕ) → reached f k ≡ false → NextLost f k
 next-lost f k e =
     let r : readingAt f k ≡ unreached (pplOf f) = unread f k e in
-    record
-    { start-is = stays f k (lost-there f k e) .0
-    ; reached-is = reached-next f k ∙ ap (λ (b : Bool). b && not (lineAt f (start f k) k .lost)) e
-    ; reading-is = r
-    ; good-is = good-next f k ∙ ap (λ (x : Reading). good f k + cond (eqb (x .status) 0) 1 0) r ∙ add-zero (good f k)
+    record {
+      start-is = stays f k (lost-there f k e) .0;
+      reached-is = reached-next f k ∙ ap (λ (b : Bool). b && not (lineAt f (start f k) k .lost)) e;
+      reading-is = r;
+      good-is = good-next f k ∙ ap (λ (x : Reading). good f k + cond (eqb (x .status) 0) 1 0) r ∙ add-zero (good f k);
     }
 
 pub record NextOn (f : List ℕ) (k : ℕ) : Type 0 where
@@ -170,7 +157,7 @@ pub record NextOn (f : List ℕ) (k : ℕ) : Type 0 where
 
 pub next-on : (f : List ℕ) (k : ℕ) → reached f k ≡ true → NextOn f k
 next-on f k e =
-    record
-    { reached-is = reached-next f k ∙ ap (λ (b : Bool). b && not (lineAt f (start f k) k .lost)) e
-    ; reading-is = was-read f k e
+    record {
+      reached-is = reached-next f k ∙ ap (λ (b : Bool). b && not (lineAt f (start f k) k .lost)) e;
+      reading-is = was-read f k e;
     }

@@ -3,14 +3,14 @@
 // A rejected call changes nothing. Otherwise every row is stored in its own place, every scanline has its status, the
 // paper's mark, and what lies past the last row or status is left as it was.
 ghost use mathlib.Core.Path.{_≡_};
-ghost use Prim.Native.Nat.{_+_, _*_, _≤_, _<_};
+ghost use Prim.Native.Nat.{_*_, _≤_, _<_};
 ghost use mathlib.Core.List.{_++_};
 ghost use lib.ListN.{length, drop};
 ghost use Rattle.header.specs.Fields.{fieldsOf};
 ghost use Rattle.header.specs.Rejections.{rejection};
-ghost use Rattle.layout.specs.Chain.{pplOf, nolOf, readingAt, rows, statuses};
+ghost use Rattle.layout.specs.Chain.{pplOf, nolOf, rows, statuses};
 ghost use Rattle.layout.specs.Reading.{rasterRejection, rasterReading, pixelsAfter, marksAfter};
-ghost use Rattle.raster.specs.Answer.{rasterNumbers, answerOf, oneIfGood, FirstChain, ChainAt};
+ghost use Rattle.raster.specs.Answer.{rasterNumbers, answerOf, oneIfGood, FirstChain, ChainAt, Stepped};
 use bodies::fill;
 use header::Fields;
 use header::fields_of;
@@ -128,9 +128,7 @@ fn read_line(file: &[u8], h: Fields, chain: Chain, k: usize, row: &mut [u16]) ->
     requires { ⌜ ChainAt (now file) k chain ⌝ }
     requires { ⌜ k < nolOf (now file) ⌝ }
     requires { ⌜ length (now row) ≡ pplOf (now file) ⌝ }
-    ensures { λ r. ⌜ ChainAt (now (file .entry)) (k + 1) r ⌝ }
-    ensures { λ r. ⌜ r .status ≡ readingAt (now (file .entry)) k .status ⌝ }
-    ensures { λ r. ⌜ now (row .exit) ≡ readingAt (now (file .entry)) k .row ⌝ }
+    ensures { λ r. ⌜ Stepped (now (file .entry)) k r (now (row .exit)) ⌝ }
 {
     let at = chain.at;
     if chain.lost {
