@@ -106,14 +106,20 @@ fn put_row(out: &mut [u8], start: usize, line: usize, mark: u8, row: &[u16]) -> 
     let mut at = put_decimal(out, start, line as u64);
     at = put_field(out, at, b" ", mark as u64);
     at = put(out, at, b":");
-    let mut i = 0;
-    while i < row.len() {
-        at = put_field(out, at, b" ", wide(row[i]));
-        i += 1;
-    }
+    at = put_pixels(out, at, row);
     put(out, at, b"\n")
 }
 
-fn wide(v: u16) -> u64 {
-    v as u64
+fn put_pixels(out: &mut [u8], start: usize, row: &[u16]) -> usize {
+    let mut at = start;
+    let mut i = 0;
+    while i < row.len() {
+        at = put_pixel(out, at, row[i]);
+        i += 1;
+    }
+    at
+}
+
+fn put_pixel(out: &mut [u8], at: usize, value: u16) -> usize {
+    put_field(out, at, b" ", value as u64)
 }
