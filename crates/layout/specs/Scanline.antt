@@ -66,9 +66,9 @@ pub record Reading : Type 0 where
 
 unfoldable pub reading : ℕ → ℕ → ℕ → List ℕ → List ℕ → Reading
 reading t p number hd body =
-    record
-    { status = first (statusRows t p number hd body)
-    ; row = rowOf (first (statusRows t p number hd body)) p (bodyPixels t body p)
+    record {
+      status = first (statusRows t p number hd body);
+      row = rowOf (first (statusRows t p number hd body)) p (bodyPixels t body p);
     }
 
 -- a scanline that follows a lost one
@@ -87,23 +87,26 @@ isLost rest = not (eqb (first (lostRows (headOf rest) (bodyOf rest))) 0)
 
 abbrev pub headedLine : ℕ → ℕ → ℕ → List ℕ → Line
 headedLine t p number rest =
-    record
-    { reading = reading t p number (headOf rest) (bodyOf rest)
-    ; lost = isLost rest
-    ; used = cond (isLost rest) 0 (4 + wordBytes (following (headOf rest)))
+    record {
+      reading = reading t p number (headOf rest) (bodyOf rest);
+      lost = isLost rest;
+      used = cond (isLost rest) 0 (4 + wordBytes (following (headOf rest)));
     }
 
 -- without a header, where every fault loses the scanline
+unfoldable pub openLost : ℕ → ℕ → List ℕ → Bool
+openLost t p rest = not (eqb (bodyExtent t rest p .status) 0)
+
 abbrev pub openLine : ℕ → ℕ → List ℕ → Line
 openLine t p rest =
-    record
-    { reading =
-        record
-        { status = bodyExtent t rest p .status
-        ; row = rowOf (bodyExtent t rest p .status) p (bodyPixels t (take (bodyExtent t rest p .used) rest) p)
-        }
-    ; lost = not (eqb (bodyExtent t rest p .status) 0)
-    ; used = bodyExtent t rest p .used
+    record {
+      reading =
+          record {
+            status = bodyExtent t rest p .status;
+            row = rowOf (bodyExtent t rest p .status) p (bodyPixels t (take (bodyExtent t rest p .used) rest) p);
+          };
+      lost = openLost t p rest;
+      used = cond (openLost t p rest) 0 (bodyExtent t rest p .used);
     }
 
 -- by SCN: 1 with headers, 0 without
