@@ -1,1 +1,3 @@
 pub mod Statement
+pub mod Same
+pub mod Headers
