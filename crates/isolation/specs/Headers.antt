@@ -58,5 +58,5 @@ module _ (g f : List ℕ) (n : ℕ) (same : (i : ℕ) → i < n → getD g i 0 �
       rw (
         e,
         same-and (eqb (fieldsOf f .ctv) 2) (sharesSlot g (fieldsOf f .cte)) (sharesSlot f (fieldsOf f .cte))
-        (λ t. same-shares (fieldsOf f .cte) (entries (eqb-true (fieldsOf f .ctv) 2 t))),
+            (λ t. same-shares (fieldsOf f .cte) (entries (eqb-true (fieldsOf f .ctv) 2 t))),
       )

@@ -18,10 +18,10 @@ pub same-window : (a b : List ℕ) (s n : ℕ) → length a ≡ length b → ((i
 same-window a b s n e h =
     ext-getD 0 (take n (drop s a)) (take n (drop s b)) (simp (length-take, length-drop, e))
     (λ i l.
-       let m : i < n = omega (arith, length-take n (drop s a)) in
-       let low : s ≤ s + i = omega arith in
-       let high : s + i < s + n = omega arith in
-       rw (getD-take n (drop s a) i 0 m, getD-take n (drop s b) i 0 m, getD-drop s a i 0, getD-drop s b i 0) (h (s + i) low high))
+    let m : i < n = omega (arith, length-take n (drop s a)) in
+    let low : s ≤ s + i = omega arith in
+    let high : s + i < s + n = omega arith in
+    rw (getD-take n (drop s a) i 0 m, getD-take n (drop s b) i 0 m, getD-drop s a i 0, getD-drop s b i 0) (h (s + i) low high))
 
 -- the numbers that lie below byte n
 module _ (a b : List ℕ) (n : ℕ) (same : (i : ℕ) → i < n → getD a i 0 ≡ getD b i 0) where
