@@ -1,15 +1,15 @@
 -- The chain of a file with scanline headers.
 use Prim.Native.Nat.{ℕ, zero, suc, _+_, _≤_, _<_}
-use mathlib.Core.Path.{_≡_, refl, sym, _∙_, ap}
-use mathlib.Core.Bool.{Bool, true, false, not, cond, _&&_}
+use mathlib.Core.Path.{_≡_, refl, sym, _∙_}
+use mathlib.Core.Bool.{Bool, true, false, not, _&&_}
 use mathlib.Core.Logic.{_⊎_, inl, inr}
-use mathlib.Core.List.{List, []}
+use mathlib.Core.List.{List}
 use native.Mathlib.Omega.{arith}
 use lib.ListN.{length, drop}
-use lib.Dec.{eqb, ltb}
+use lib.Dec.{ltb}
 use borrow.Author.Tests.{ltb-true, ltb-false}
-use Rattle.layout.specs.Scanline.{Reading, reading, unreached, isLost, headOf, bodyOf}
-use Rattle.layout.specs.Chain.{scnOf, typeOf, pplOf, nolOf, numberOf, dataStart, start, reached, readingAt}
+use Rattle.layout.specs.Scanline.{reading, unreached, isLost}
+use Rattle.layout.specs.Chain.{scnOf, typeOf, pplOf, numberOf, dataStart, start, reached, readingAt}
 use Rattle.isolation.specs.Statement.{InBody, headAt, bodyAt}
 use Rattle.isolation.specs.Headed.{usedOf, used-lost, used-body}
 

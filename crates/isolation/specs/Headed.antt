@@ -1,14 +1,14 @@
 -- One scanline with a header: whether it is lost and how many bytes it uses are settled by its header's bytes and by how
 -- many bytes follow. Its body lies between its header and the next scanline.
-use Prim.Native.Nat.{ℕ, _+_, _-_, _≤_, _<_}
-use mathlib.Core.Path.{_≡_, refl, sym, ap}
-use mathlib.Core.Bool.{Bool, true, false, not, cond}
-use mathlib.Core.List.{List, [], _∷_, _++_}
+use Prim.Native.Nat.{ℕ, _+_, _≤_}
+use mathlib.Core.Path.{_≡_, refl}
+use mathlib.Core.Bool.{Bool, true, false, cond}
+use mathlib.Core.List.{List, []}
 use native.Mathlib.Omega.{arith}
 use lib.ListN.{length, take, drop, length-take, length-drop}
-use lib.Dec.{eqb, ltb}
+use lib.Dec.{eqb}
 use borrow.Author.Tests.{eqb-true, ltb-false, not-false}
-use Rattle.units.specs.Rows.{row, first, none-holds}
+use Rattle.units.specs.Rows.{first, none-holds}
 use Rattle.units.specs.Words.{wordBytes}
 use Rattle.layout.specs.Scanline.{headOf, bodyOf, following, bodySize, headRows, lostRows, isLost}
 

@@ -3,3 +3,7 @@ pub mod Same
 pub mod Headers
 pub mod Headed
 pub mod Chained
+pub mod Buffers
+pub mod OneFile
+pub mod TwoFiles
+pub mod Law

@@ -1,15 +1,15 @@
 -- Lists of bytes that agree in places, and tables one after the other.
 use Prim.Native.Nat.{ℕ, zero, suc, _+_, _≤_, _<_}
 use mathlib.Core.Path.{_≡_, refl, sym, _∙_}
-use mathlib.Core.Bool.{Bool, true, false, cond}
+use mathlib.Core.Bool.{Bool, true, false}
 use mathlib.Core.List.{List, _++_}
 use native.Mathlib.Omega.{arith}
 use lib.ListN.{length, getD, take, drop, length-take, length-drop}
 use lib.Seq.{ext-getD, getD-take, getD-drop}
-use lib.Dec.{T, eqb}
+use lib.Dec.{eqb}
 use borrow.Author.Tests.{eqb-true, eqb-false}
 use Rattle.units.specs.LittleEndian.{u16At, u32At}
-use Rattle.units.specs.Rows.{Row, first, numbered, first-here}
+use Rattle.units.specs.Rows.{Row, first, first-here}
 use Rattle.units.specs.Scan.{scan}
 
 -- n bytes from s on
