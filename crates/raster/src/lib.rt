@@ -63,9 +63,9 @@ pub fn read_raster(file: &[u8], pixels: &mut [u16], marks: &mut [u8]) -> RasterA
 pub fn raster_rejection(file: &[u8], pixels: usize, marks: usize) -> u16
     ensures { λ r. ⌜ r ≡ rasterRejection (now (file .entry)) pixels marks ⌝ }
 {
-    let number = rejection_of(file);
-    if number != 0 {
-        return number;
+    let rejected = rejection_of(file);
+    if rejected != 0 {
+        return rejected;
     }
     let h = fields_of(file);
     let ppl = h.ppl as usize;

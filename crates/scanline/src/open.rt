@@ -1,9 +1,12 @@
 // A scanline without a header.
-ghost use lib.ListN.{length};
-ghost use Rattle.layout.specs.Scanline.{openLine};
+ghost use mathlib.Core.Path.{_≡_};
+ghost use lib.ListN.{length, take};
+ghost use Rattle.bodies.specs.Statuses.{rowOf};
+ghost use Rattle.bodies.specs.Answers.{extentNumbers};
+ghost use Rattle.layout.specs.Scanline.{openLine, bodyPixels, bodyExtent};
 ghost use Rattle.scanline.specs.Answer.{IsLine};
 use crate::Scanline;
-use crate::body::take_body;
+use bodies::Extent;
 
 pub fn read_open(dtc: u16, rest: &[u8], row: &mut [u16]) -> Scanline
     ensures { λ r. ⌜ IsLine (openLine dtc (length (now (row .entry))) (now (rest .entry))) r (now (row .exit)) ⌝ }
@@ -21,4 +24,21 @@ pub fn read_open(dtc: u16, rest: &[u8], row: &mut [u16]) -> Scanline
         lost: false,
         used: extent.used,
     }
+}
+
+// Takes the body from the bytes that are left, by data type.
+fn take_body(dtc: u16, rest: &[u8], row: &mut [u16]) -> Extent
+    ensures { λ r. ⌜ extentNumbers r ≡ bodyExtent dtc (now (rest .entry)) (length (now (row .entry))) ⌝ }
+    ensures { λ r. ⌜ now (row .exit) ≡ rowOf (r .status) (length (now (row .entry))) (bodyPixels dtc (take (r .used) (now (rest .entry))) (length (now (row .entry)))) ⌝ }
+{
+    if dtc == 2 {
+        return bodies::take_bytes(rest, row);
+    }
+    if dtc == 3 {
+        return bodies::take_words(rest, row);
+    }
+    if dtc == 9 {
+        return bodies::take_runs(rest, row);
+    }
+    bodies::take_pairs(rest, row)
 }

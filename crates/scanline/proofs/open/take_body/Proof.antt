@@ -1,8 +1,8 @@
 use borrow.Author.Tests.{eq-eqb, ne-eqb}
 use borrow.Author.Needs.{needs}
 use Rattle.layout.specs.Scanline.{bodyExtent, bodyPixels}
-use Rattle.scanline.proofs.body.take_body.Statement.{statement}
-use Rattle.scanline.proofs.body.take_body.Tie as tie
+use Rattle.scanline.proofs.open.take_body.Statement.{statement}
+use Rattle.scanline.proofs.open.take_body.Tie as tie
 
 take-bytes-requires : tie.Need-take-bytes-requires
 take-bytes-requires c κs = search needs
