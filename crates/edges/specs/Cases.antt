@@ -123,9 +123,21 @@ cases =
       marks = 0 ∷ (7 ∷ (7 ∷ []));
       pixels = blank ++ replicate 9 7;
     } ∷
-    -- 13: 32 Environ-V entries fit two blocks and 33 do not
+    -- 13: 32 Environ-V entries fit two blocks and 33 do not; 96 fit three and 97 do not
     one (environ 2 32) 1 blank 1024 ∷
     rejects (environ 2 33) 21 ∷
+    record {
+      file = environ 3 96;
+      blocks = 3;
+      kind = 0;
+      size = 0;
+      answer = 1;
+      good = 0;
+      end = 1536;
+      marks = 1 ∷ (7 ∷ (7 ∷ []));
+      pixels = blank ++ replicate 9 7;
+    } ∷
+    rejects (environ 3 97) 21 ∷
     []
 
 pub all-hold : map computed cases ≡ cases

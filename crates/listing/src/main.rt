@@ -5,6 +5,7 @@ use libc::STDOUT_FILENO;
 use raster::RasterAnswer;
 use text::put;
 use text::put_decimal;
+use text::put_field;
 
 fn main() {
     let mut space = [0u8; 32769];
@@ -50,11 +51,6 @@ fn print(text: &[u8], end: usize) {
     if end <= text.len() {
         io::write_all(STDOUT_FILENO, &text[..end]);
     }
-}
-
-fn put_field(out: &mut [u8], at: usize, name: &[u8], n: u64) -> usize {
-    let next = put(out, at, name);
-    put_decimal(out, next, n)
 }
 
 fn put_rejection(out: &mut [u8], number: u32) -> usize {

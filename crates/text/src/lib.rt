@@ -32,6 +32,14 @@ pub fn put_decimal(out: &mut [u8], at: usize, n: u64) -> usize
     put(out, at, &digits[..k])
 }
 
+// Puts a name and then a number.
+pub fn put_field(out: &mut [u8], at: usize, name: &[u8], n: u64) -> usize
+    ensures { λ r. ⌜ DecimalPut (putAt (now (out .entry)) at (now (name .entry))) (nextAt (now (out .entry)) at (now (name .entry))) n r (now (out .exit)) ⌝ }
+{
+    let next = put(out, at, name);
+    put_decimal(out, next, n)
+}
+
 fn copy(out: &mut [u8], at: usize, text: &[u8])
     requires { ⌜ at ≤ length (now out) ⌝ }
     requires { ⌜ length (now text) ≤ length (now out) - at ⌝ }
