@@ -1,0 +1,3 @@
+pub mod Over
+pub mod Runs
+pub mod Bodies
