@@ -3,3 +3,4 @@ pub mod Runs
 pub mod Bodies
 pub mod RoundTripWords
 pub mod RoundTripRuns
+pub mod RoundTripPairs
