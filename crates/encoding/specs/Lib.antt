@@ -4,3 +4,4 @@ pub mod Bodies
 pub mod RoundTripWords
 pub mod RoundTripRuns
 pub mod RoundTripPairs
+pub mod RoundTrip

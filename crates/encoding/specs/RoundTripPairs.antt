@@ -6,7 +6,7 @@ use mathlib.Core.List.{List, [], _∷_, _++_, append-assoc, append-nil}
 use native.Mathlib.Omega.{arith}
 use borrow.Author.Tests.{le-ltb, eq-eqb, ne-eqb, leb-true, leb-false, eqb-true}
 use lib.ListN.{length, replicate, length-append, length-replicate, replicate-append-replicate}
-use lib.Dec.{eqb, leb, ltb}
+use lib.Dec.{eqb, leb}
 use Rattle.units.specs.Words.{words, wordBytes}
 use Rattle.bodies.specs.Pixels.{pairPixels, pairTotal}
 use Rattle.bodies.specs.Extents.{taken, pairsFrom, pairExtent}

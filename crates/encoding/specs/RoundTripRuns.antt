@@ -1,12 +1,12 @@
 -- Type 9: the runs of a row, read back.
 use Prim.Native.Nat.{ℕ, zero, suc, _+_, _-_, _*_, _%_, _≤_, _<_}
 use mathlib.Core.Path.{_≡_, refl, sym, ap, _∙_}
-use mathlib.Core.Bool.{Bool, true, false, cond, _&&_}
+use mathlib.Core.Bool.{Bool, true, false, cond}
 use mathlib.Core.List.{List, [], _∷_, _++_, append-assoc, append-nil}
 use native.Mathlib.Omega.{arith}
 use borrow.Author.Tests.{le-ltb, eq-eqb, ne-eqb, leb-true, leb-false, eqb-true, eqb-false}
 use lib.ListN.{length, replicate, length-append, replicate-append-replicate}
-use lib.Dec.{eqb, leb, ltb}
+use lib.Dec.{eqb, leb}
 use Rattle.units.specs.Words.{words, wordBytes}
 use Rattle.bodies.specs.Pixels.{runPixels, runTotal}
 use Rattle.bodies.specs.Extents.{taken, runsFrom, runExtent}
