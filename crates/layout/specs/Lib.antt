@@ -1,3 +1,4 @@
 pub mod Scanline
 pub mod Chain
 pub mod Reading
+pub mod LineLaws

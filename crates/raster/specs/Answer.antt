@@ -1,0 +1,41 @@
+-- What reading a raster answers, and what is known of its chain on the way.
+use Prim.Native.Nat.{ℕ, _+_}
+use mathlib.Core.Path.{_≡_}
+use mathlib.Core.Bool.{Bool, false, not, cond}
+use mathlib.Core.List.{List}
+use lib.Dec.{eqb}
+use Rattle.units.specs.Counts.{bytesOfBlocks}
+use Rattle.header.specs.declared.fields.Fields.{Fields}
+use Rattle.header.specs.Fields.{headerBlocks}
+use Rattle.layout.specs.Chain.{start, reached, readingAt, good}
+use Rattle.layout.specs.Reading.{RasterNumbers}
+use Rattle.raster.specs.declared.RasterAnswer.{RasterAnswer}
+use Rattle.raster.specs.declared.Chain.{Chain}
+
+abbrev pub rasterNumbers : RasterAnswer → RasterNumbers
+rasterNumbers r = record { answer = r .answer; good = r .good; end = r .end }
+
+-- 0 where all of n are good, else 1
+abbrev pub answerOf : ℕ → ℕ → ℕ
+answerOf good n = cond (eqb good n) 0 1
+
+abbrev pub oneIfGood : ℕ → ℕ
+oneIfGood status = cond (eqb status 0) 1 0
+
+-- the chain before the first scanline of a file with these fields
+pub record FirstChain (h : Fields) (c : Chain) : Type 0 where
+  pub at : c .at ≡ bytesOfBlocks (headerBlocks h) .0
+  pub lost : c .lost ≡ false
+  pub good : c .good ≡ 0
+
+-- the chain of f before scanline k
+pub record ChainAt (f : List ℕ) (k : ℕ) (c : Chain) : Type 0 where
+  pub at : c .at ≡ start f k
+  pub lost : c .lost ≡ not (reached f k)
+  pub good : c .good ≡ good f k
+
+-- the chain after scanline k, with its status and its row
+pub record Stepped (f : List ℕ) (k : ℕ) (c : Chain) (row : List ℕ) : Type 0 where
+  pub chain : ChainAt f (k + 1) c
+  pub status : c .status ≡ readingAt f k .status
+  pub row-is : row ≡ readingAt f k .row

@@ -1,0 +1,278 @@
+//! "Sheets at the edges": inputs and outcomes written out by hand.
+
+use crate::gen::picture::Picture;
+use crate::gen::put;
+use crate::gen::sheet::words;
+
+pub struct Edge {
+    pub name: &'static str,
+    pub file: Vec<u8>,
+    pub printed: &'static str,
+}
+
+const WITH: u8 = 1;
+const WITHOUT: u8 = 0;
+
+/// A two-block header and nothing else.
+fn head(kind: u8, pixels: u8, lines: u8, scn: u8) -> Vec<u8> {
+    let mut file = vec![0; 1024];
+    put(&mut file, 0, &[0x08, 0x09, 0xFE, 0x01, kind, 0]);
+    put(&mut file, 184, &[pixels, 0, 0, 0, lines, 0, 0, 0]);
+    put(&mut file, 195, &[scn]);
+    put(&mut file, 511, &[3]);
+    file
+}
+
+fn with_words(kind: u8, pixels: u8, lines: u8, scn: u8, raster: &[u16]) -> Vec<u8> {
+    let mut file = head(kind, pixels, lines, scn);
+    file.extend(words(raster));
+    file
+}
+
+fn changed(mut file: Vec<u8>, at: usize, bytes: &[u8]) -> Vec<u8> {
+    put(&mut file, at, bytes);
+    file
+}
+
+fn cut(mut file: Vec<u8>, len: usize) -> Vec<u8> {
+    file.truncate(len);
+    file
+}
+
+pub fn edges() -> Vec<Edge> {
+    let good = with_words(9, 8, 1, WITH, &[0x5900, 5, 1, 0, 3, 2, 3]);
+    let edge = |name, file, printed| Edge { name, file, printed };
+    vec![
+        edge("1: empty file", Vec::new(), "refused 11\n"),
+        edge(
+            "2: WTF 510",
+            good.clone(),
+            "type 9 pixels 8 lines 1 answer 0 good 1 end 1038\n1 0: 0 0 0 1 1 0 0 0\n",
+        ),
+        edge("2: WTF 509", changed(good.clone(), 2, &[0xFD, 0x01]), "refused 13\n"),
+        edge(
+            "3: 3 2 3",
+            good.clone(),
+            "type 9 pixels 8 lines 1 answer 0 good 1 end 1038\n1 0: 0 0 0 1 1 0 0 0\n",
+        ),
+        edge(
+            "4: 3 2 4",
+            with_words(9, 8, 1, WITH, &[0x5900, 5, 1, 0, 3, 2, 4]),
+            "type 9 pixels 8 lines 1 answer 1 good 0 end 1038\n1 7: 0 0 0 0 0 0 0 0\n",
+        ),
+        edge(
+            "4: 3",
+            with_words(9, 8, 1, WITH, &[0x5900, 3, 1, 0, 3]),
+            "type 9 pixels 8 lines 1 answer 1 good 0 end 1034\n1 8: 0 0 0 0 0 0 0 0\n",
+        ),
+        edge(
+            "4: 3 2",
+            with_words(9, 8, 1, WITH, &[0x5900, 4, 1, 0, 3, 2]),
+            "type 9 pixels 8 lines 1 answer 1 good 0 end 1036\n1 6: 0 0 0 0 0 0 0 0\n",
+        ),
+        edge(
+            "5: 8 0 0",
+            with_words(9, 8, 1, WITH, &[0x5900, 5, 1, 0, 8, 0, 0]),
+            "type 9 pixels 8 lines 1 answer 0 good 1 end 1038\n1 0: 0 0 0 0 0 0 0 0\n",
+        ),
+        edge(
+            "6: no headers, 3 5 0 8",
+            with_words(9, 8, 2, WITHOUT, &[3, 5, 0, 8]),
+            "type 9 pixels 8 lines 2 answer 0 good 2 end 1032\n\
+             1 0: 0 0 0 1 1 1 1 1\n\
+             2 0: 0 0 0 0 0 0 0 0\n",
+        ),
+        edge(
+            "7: no headers, 8 0 0 8",
+            with_words(9, 8, 2, WITHOUT, &[8, 0, 0, 8]),
+            "type 9 pixels 8 lines 2 answer 0 good 2 end 1032\n\
+             1 0: 0 0 0 0 0 0 0 0\n\
+             2 0: 0 0 0 0 0 0 0 0\n",
+        ),
+        edge(
+            "7: the same words, one line",
+            with_words(9, 8, 1, WITHOUT, &[8, 0, 0, 8]),
+            "type 9 pixels 8 lines 1 answer 0 good 1 end 1026\n1 0: 0 0 0 0 0 0 0 0\n",
+        ),
+        edge(
+            "8: W 2, type 9",
+            with_words(9, 8, 1, WITH, &[0x5900, 2, 1, 0]),
+            "type 9 pixels 8 lines 1 answer 1 good 0 end 1032\n1 6: 0 0 0 0 0 0 0 0\n",
+        ),
+        edge(
+            "8: W 2, type 10",
+            with_words(10, 8, 1, WITH, &[0x5900, 2, 1, 0]),
+            "type 10 pixels 8 lines 1 answer 1 good 0 end 1032\n1 8: 0 0 0 0 0 0 0 0\n",
+        ),
+        edge(
+            "8: W 1",
+            with_words(9, 8, 2, WITH, &[0x5900, 1, 1, 0, 0x5900, 3, 2, 0, 8]),
+            "type 9 pixels 8 lines 2 answer 1 good 0 end 1024\n\
+             1 3: 0 0 0 0 0 0 0 0\n\
+             2 9: 0 0 0 0 0 0 0 0\n",
+        ),
+        edge(
+            "9: 7 8",
+            with_words(10, 8, 1, WITH, &[0x5900, 4, 1, 0, 7, 8]),
+            "type 10 pixels 8 lines 1 answer 0 good 1 end 1036\n1 0: 7 7 7 7 7 7 7 7\n",
+        ),
+        edge(
+            "9: 8 7",
+            with_words(10, 8, 1, WITH, &[0x5900, 4, 1, 0, 8, 7]),
+            "type 10 pixels 8 lines 1 answer 1 good 0 end 1036\n1 8: 0 0 0 0 0 0 0 0\n",
+        ),
+        edge(
+            "10: 5 6 7 99",
+            with_words(2, 3, 1, WITH, &[0x5900, 4, 1, 0, 0x0605, 0x6307]),
+            "type 2 pixels 3 lines 1 answer 0 good 1 end 1036\n1 0: 5 6 7\n",
+        ),
+        edge(
+            "12: DRS -200",
+            changed(good.clone(), 192, &[0x38, 0xFF]),
+            "type 9 pixels 8 lines 1 answer 0 good 1 end 1038\n1 0: 0 0 0 1 1 0 0 0\n",
+        ),
+        edge(
+            "the printed example",
+            with_words(
+                9,
+                8,
+                3,
+                WITH,
+                &[0x5900, 5, 1, 0, 3, 2, 3, 0x5900, 5, 2, 0, 0, 8, 0, 0x5900, 5, 3, 0, 3, 2, 4],
+            ),
+            "type 9 pixels 8 lines 3 answer 1 good 2 end 1066\n\
+             1 0: 0 0 0 1 1 0 0 0\n\
+             2 0: 1 1 1 1 1 1 1 1\n\
+             3 7: 0 0 0 0 0 0 0 0\n",
+        ),
+        edge(
+            "nothing after the header",
+            head(9, 8, 3, WITH),
+            "type 9 pixels 8 lines 3 answer 1 good 0 end 1024\n\
+             1 1: 0 0 0 0 0 0 0 0\n\
+             2 9: 0 0 0 0 0 0 0 0\n\
+             3 9: 0 0 0 0 0 0 0 0\n",
+        ),
+        edge(
+            "seven bytes and a wrong identifier",
+            cut(with_words(9, 8, 1, WITH, &[0xD900, 3, 1, 0, 8]), 1031),
+            "type 9 pixels 8 lines 1 answer 1 good 0 end 1024\n1 1: 0 0 0 0 0 0 0 0\n",
+        ),
+        edge(
+            "eight bytes and a wrong identifier",
+            cut(with_words(9, 8, 1, WITH, &[0xD900, 3, 1, 0, 8]), 1032),
+            "type 9 pixels 8 lines 1 answer 1 good 0 end 1024\n1 2: 0 0 0 0 0 0 0 0\n",
+        ),
+        edge(
+            "no headers, ON to the end and no OFF run",
+            with_words(9, 8, 1, WITHOUT, &[3, 5]),
+            "type 9 pixels 8 lines 1 answer 1 good 0 end 1024\n1 1: 0 0 0 0 0 0 0 0\n",
+        ),
+        edge(
+            "no headers, ON to the end and an OFF run too many",
+            with_words(9, 8, 2, WITHOUT, &[3, 5, 1, 7]),
+            "type 9 pixels 8 lines 2 answer 1 good 0 end 1024\n\
+             1 7: 0 0 0 0 0 0 0 0\n\
+             2 9: 0 0 0 0 0 0 0 0\n",
+        ),
+        edge(
+            "no headers, a value without its count",
+            with_words(10, 8, 2, WITHOUT, &[7, 8, 1, 0, 7]),
+            "type 10 pixels 8 lines 2 answer 1 good 1 end 1028\n\
+             1 0: 7 7 7 7 7 7 7 7\n\
+             2 1: 0 0 0 0 0 0 0 0\n",
+        ),
+        edge(
+            "no headers, odd lines of bytes",
+            with_words(2, 3, 2, WITHOUT, &[0x0605, 0x0807, 0x0A09]),
+            "type 2 pixels 3 lines 2 answer 0 good 2 end 1030\n1 0: 5 6 7\n2 0: 8 9 10\n",
+        ),
+        edge(
+            "an even body above P is of a wrong count",
+            with_words(9, 8, 1, WITH, &[0x5900, 4, 1, 0, 8, 8]),
+            "type 9 pixels 8 lines 1 answer 1 good 0 end 1036\n1 6: 0 0 0 0 0 0 0 0\n",
+        ),
+        edge(
+            "a total that is P again in 16 bits",
+            with_words(9, 8, 1, WITH, &[0x5900, 5, 1, 0, 8, 65_535, 1]),
+            "type 9 pixels 8 lines 1 answer 1 good 0 end 1038\n1 7: 0 0 0 0 0 0 0 0\n",
+        ),
+        edge("no lines", head(9, 64, 0, WITH), "refused 20\n"),
+        edge(
+            "both buffers too short",
+            changed(head(9, 64, 0, WITH), 188, &[0x01, 0x01]),
+            "refused 23\n",
+        ),
+        edge("too many lines", changed(head(9, 1, 0, WITH), 188, &[0x01, 0x01]), "refused 24\n"),
+    ]
+}
+
+/// A picture and all that the writing program prints for it.
+pub struct WrittenEdge {
+    pub name: &'static str,
+    pub picture: Picture,
+    pub printed: Vec<u8>,
+}
+
+const FILL: u8 = 0xEE;
+
+/// The header that the writer makes: above what a reader needs, the identity matrix and the
+/// aspect ratio, each of whose ones is 3FF0h on top of six zero bytes.
+fn written_head(kind: u8, ppl: u16, scn: u8) -> Vec<u8> {
+    let mut file = head(kind, 0, 1, scn);
+    put(&mut file, 184, &ppl.to_le_bytes());
+    for at in [62, 102, 142, 182, 526] {
+        put(&mut file, at, &[0xF0, 0x3F]);
+    }
+    file
+}
+
+/// One line of pixels, the words its raster data must be, and room for two bytes more.
+fn written(name: &'static str, kind: u8, scn: u8, pixels: Vec<u16>, raster: &[u16]) -> WrittenEdge {
+    let mut file = written_head(kind, pixels.len() as u16, scn);
+    file.extend(words(raster));
+    let mut printed = format!("written {}\n", file.len()).into_bytes();
+    printed.extend(&file);
+    printed.extend([FILL, FILL]);
+    let mut picture = Picture::plain(kind.into(), pixels.len(), 1, scn.into(), pixels);
+    picture.room = file.len() as u32 + 2;
+    picture.fill = FILL;
+    WrittenEdge { name, picture, printed }
+}
+
+pub fn written_edges() -> Vec<WrittenEdge> {
+    let off = vec![0; 32_768];
+    let on = vec![1; 32_768];
+    let widest: Vec<u16> = (0..65_533).collect();
+    let mut long_line = vec![0x5900, 65_535, 1, 0];
+    long_line.extend(&widest);
+    let mut all = vec![
+        written("11: OFF, no headers", 9, WITHOUT, off.clone(), &[32_767, 0, 1]),
+        written("11: ON, no headers", 9, WITHOUT, on.clone(), &[0, 32_767, 0, 1, 0]),
+        written("11: OFF", 9, WITH, off.clone(), &[0x5900, 5, 1, 0, 32_767, 0, 1]),
+        written("11: ON", 9, WITH, on.clone(), &[0x5900, 7, 1, 0, 0, 32_767, 0, 1, 0]),
+        written("two full pieces", 9, WITHOUT, vec![0; 65_534], &[32_767, 0, 32_767]),
+        written("two full pieces, ON", 9, WITHOUT, vec![1; 65_534], &[0, 32_767, 0, 32_767, 0]),
+        written("two full pieces and one", 9, WITHOUT, vec![0; 65_535], &[32_767, 0, 32_767, 0, 1]),
+        written("just whole", 9, WITHOUT, vec![1; 32_767], &[0, 32_767, 0]),
+        written("pairs in pieces", 10, WITHOUT, vec![7; 32_768], &[7, 32_767, 7, 1]),
+        written(
+            "pairs in full pieces",
+            10,
+            WITH,
+            vec![7; 65_534],
+            &[0x5900, 6, 1, 0, 7, 32_767, 7, 32_767],
+        ),
+        written("runs", 9, WITHOUT, vec![0, 0, 1, 0], &[2, 1, 1]),
+        written("runs that end ON", 9, WITHOUT, vec![1, 0, 1], &[0, 1, 1, 1, 0]),
+        written("a spare byte", 2, WITH, vec![5, 6, 7], &[0x5900, 4, 1, 0, 0x0605, 0x0007]),
+        written("14: 65,533 words", 3, WITH, widest, &long_line),
+    ];
+    let mut picture = Picture::plain(3, 65_534, 1, 1, vec![9; 65_534]);
+    picture.room = 133_000;
+    picture.fill = FILL;
+    let mut printed = b"refused 27\n".to_vec();
+    printed.extend([FILL; 133_000]);
+    all.push(WrittenEdge { name: "14: 65,534 words", picture, printed });
+    all
+}

@@ -1,0 +1,7 @@
+//! The modes: each makes its inputs, runs the programs over them and compares.
+
+pub mod header;
+pub mod pairs;
+pub mod selftest;
+pub mod sheets;
+pub mod write;

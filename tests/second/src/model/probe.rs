@@ -1,0 +1,130 @@
+//! What each program under test must print for its standard input.
+
+use super::header::{self, Header, Resolution};
+use super::long;
+use super::sheet::{self, Sheet};
+use super::writer::{self, Order};
+use std::fmt::Write;
+
+pub const HEADER_LIMIT: usize = 140_000;
+pub const LISTING_LIMIT: usize = 32_768;
+/// What the listing program lends.
+pub const LISTING_PIXELS: u64 = 8_192;
+pub const LISTING_MARKS: u64 = 256;
+
+pub const WRITE_LIMIT: usize = 400_000;
+pub const WRITE_TABLE: usize = 2_000;
+pub const WRITE_PIXELS: usize = 150_000;
+pub const WRITE_ROOM: usize = 400_000;
+
+/// The values whose colors the header program prints.
+fn values() -> impl Iterator<Item = u64> {
+    (0..=300).chain([65_535])
+}
+
+pub fn header(input: &[u8]) -> Vec<u8> {
+    if input.len() > HEADER_LIMIT {
+        return b"too long\n".to_vec();
+    }
+    let found = match header::read(input) {
+        Err(number) => return refused(number),
+        Ok(found) => found,
+    };
+    let mut text = fields(&found);
+    for value in values() {
+        match header::color(input, &found, value) {
+            Some([red, green, blue]) => {
+                line(&mut text, format_args!("{value}: {red} {green} {blue}"))
+            }
+            None => line(&mut text, format_args!("{value}: refused 25")),
+        }
+    }
+    text.into_bytes()
+}
+
+fn fields(h: &Header) -> String {
+    let (kind, size) = match h.resolution {
+        Resolution::None => (0, 0),
+        Resolution::Microns(size) => (1, size),
+        Resolution::DotsPerInch(size) => (2, size),
+    };
+    format!(
+        "type {} blocks {} pixels {} lines {} resolution {kind} {size} slo {} scn {} ctv {} cte {}\n",
+        h.kind, h.blocks, h.ppl, h.nol, h.slo, h.scn, h.ctv, h.cte
+    )
+}
+
+pub fn listing(input: &[u8]) -> Vec<u8> {
+    if input.len() > LISTING_LIMIT {
+        return b"too long\n".to_vec();
+    }
+    match sheet::read(input, LISTING_PIXELS, LISTING_MARKS) {
+        Err(number) => refused(number),
+        Ok(found) => list(&found),
+    }
+}
+
+pub fn list(sheet: &Sheet) -> Vec<u8> {
+    let h = &sheet.header;
+    let mut text = format!(
+        "type {} pixels {} lines {} answer {} good {} end {}\n",
+        h.kind,
+        h.ppl,
+        h.nol,
+        sheet.answer(),
+        sheet.good(),
+        sheet.end
+    );
+    for (i, found) in sheet.lines.iter().enumerate() {
+        let row: Vec<String> = found.row.iter().map(u64::to_string).collect();
+        line(&mut text, format_args!("{} {}: {}", i + 1, found.mark, row.join(" ")));
+    }
+    text.into_bytes()
+}
+
+pub fn write(input: &[u8]) -> Vec<u8> {
+    if input.len() > WRITE_LIMIT {
+        return b"too long\n".to_vec();
+    }
+    if input.len() < 40 {
+        return b"short\n".to_vec();
+    }
+    let number = |i: usize| long(input, 4 * i) as u32;
+    let [table, count, room] = [6, 7, 8].map(|i| number(i) as usize);
+    if table > WRITE_TABLE || count > WRITE_PIXELS || room > WRITE_ROOM {
+        return b"too long\n".to_vec();
+    }
+    if input.len() < 40 + table + 2 * count {
+        return b"short\n".to_vec();
+    }
+    let (table, pixels) = input[40..40 + table + 2 * count].split_at(table);
+    let pixels: Vec<u16> =
+        pixels.chunks(2).map(|pair| u16::from_le_bytes([pair[0], pair[1]])).collect();
+    let written = writer::write(&Order {
+        kind: number(0),
+        ppl: number(1),
+        nol: number(2),
+        slo: number(3),
+        scn: number(4),
+        drs: number(5) as u16 as i16,
+        table,
+        pixels: &pixels,
+        room,
+    });
+    let (mut output, file) = match written {
+        Err(number) => (refused(number), Vec::new()),
+        Ok(file) => (format!("written {}\n", file.len()).into_bytes(), file),
+    };
+    let fill = number(9) as u8;
+    output.extend(&file);
+    output.resize(output.len() - file.len() + room, fill);
+    output
+}
+
+fn refused(number: u32) -> Vec<u8> {
+    format!("refused {number}\n").into_bytes()
+}
+
+fn line(text: &mut String, what: std::fmt::Arguments) {
+    writeln!(text, "{what}").expect("a string takes all");
+}

@@ -1,0 +1,185 @@
+//! The whole sheet: rows, marks, good lines and end.
+
+use super::header::{self, Header};
+use super::{word, Rejection};
+use std::ops::Range;
+
+pub struct Sheet {
+    pub header: Header,
+    /// Every line from 1 to NOL.
+    pub lines: Vec<Line>,
+    /// The byte after the last line, or the first byte of the lost one.
+    pub end: usize,
+}
+
+#[derive(Clone, PartialEq)]
+pub struct Line {
+    pub mark: u8,
+    pub row: Vec<u64>,
+    /// The bytes of the body as far as they lie in the file; none for a line without a header.
+    pub body: Option<Range<usize>>,
+}
+
+impl Sheet {
+    pub fn good(&self) -> usize {
+        self.lines.iter().filter(|line| line.mark == 0).count()
+    }
+
+    /// 0 where every line is good, else 1.
+    pub fn answer(&self) -> u64 {
+        u64::from(self.good() < self.lines.len())
+    }
+}
+
+/// What the chain does after a line.
+enum Next {
+    At(usize),
+    Lost,
+}
+
+/// A mark, or the row of a good line.
+type Reading = Result<Vec<u64>, u8>;
+
+pub fn read(file: &[u8], pixels: u64, marks: u64) -> Result<Sheet, Rejection> {
+    let header = header::read(file)?;
+    if pixels < header.ppl * header.nol {
+        return Err(23);
+    }
+    if marks < header.nol {
+        return Err(24);
+    }
+    let mut lines = Vec::new();
+    let mut at = header.size();
+    let mut lost = false;
+    for k in 1..=header.nol {
+        let (reading, body, next) = match (lost, header.scn) {
+            (true, _) => (Err(9), None, Next::Lost),
+            (false, 0) => bare_line(file, at, header.kind, header.ppl),
+            (false, _) => headed_line(file, at, header.kind, header.ppl, k),
+        };
+        match next {
+            Next::At(place) => at = place,
+            Next::Lost => lost = true,
+        }
+        let (mark, row) = match reading {
+            Ok(row) => (0, row),
+            Err(mark) => (mark, vec![0; header.ppl as usize]),
+        };
+        lines.push(Line { mark, row, body });
+    }
+    Ok(Sheet { header, lines, end: at })
+}
+
+/// A line with its four words of header before it.
+fn headed_line(
+    file: &[u8],
+    at: usize,
+    kind: u64,
+    ppl: u64,
+    k: u64,
+) -> (Reading, Option<Range<usize>>, Next) {
+    if at + 8 > file.len() {
+        return (Err(1), None, Next::Lost);
+    }
+    if file[at + 1] != 0x59 {
+        return (Err(2), None, Next::Lost);
+    }
+    // Words after this field: line number, offset and the body.
+    let follow = word(file, at + 2) as usize;
+    if follow < 2 {
+        return (Err(3), None, Next::Lost);
+    }
+    let next = at + 4 + 2 * follow;
+    if next > file.len() {
+        return (Err(1), Some(at + 8..file.len()), Next::Lost);
+    }
+    let body = at + 8..next;
+    let reading = if word(file, at + 4) != k {
+        Err(4)
+    } else if word(file, at + 6) != 0 {
+        Err(5)
+    } else {
+        whole_body(&file[body.clone()], kind, ppl)
+    };
+    (reading, Some(body), Next::At(next))
+}
+
+/// A body whose length the line's header gives: marks 6, 7 and 8.
+fn whole_body(body: &[u8], kind: u64, ppl: u64) -> Reading {
+    let words: Vec<u64> = body.chunks(2).map(|pair| word(pair, 0)).collect();
+    let count = words.len() as u64;
+    let right = match kind {
+        2 => count == ppl.div_ceil(2),
+        3 => count == ppl,
+        9 => count % 2 == 1,
+        _ => count % 2 == 0,
+    };
+    if !right {
+        return Err(6);
+    }
+    let runs: Vec<(u64, u64)> = match kind {
+        2 => return Ok(body[..ppl as usize].iter().map(|&byte| u64::from(byte)).collect()),
+        3 => return Ok(words),
+        9 => words.iter().enumerate().map(|(i, &run)| (i as u64 % 2, run)).collect(),
+        _ => words.chunks(2).map(|pair| (pair[0], pair[1])).collect(),
+    };
+    let total: u64 = runs.iter().map(|run| run.1).sum();
+    match total {
+        _ if total > ppl => Err(7),
+        _ if total < ppl => Err(8),
+        _ => Ok(spread(&runs)),
+    }
+}
+
+/// The pixels of runs of a value and a count.
+fn spread(runs: &[(u64, u64)]) -> Vec<u64> {
+    runs.iter().flat_map(|&(value, count)| vec![value; count as usize]).collect()
+}
+
+/// A line that only its own pixels bound: marks 1 and 7, both lost.
+fn bare_line(file: &[u8], at: usize, kind: u64, ppl: u64) -> (Reading, Option<Range<usize>>, Next) {
+    let lost = |mark| (Err(mark), None, Next::Lost);
+    let width = ppl as usize;
+    match kind {
+        2 => match file.get(at..at + width) {
+            Some(body) => {
+                let row = body.iter().map(|&byte| u64::from(byte)).collect();
+                (Ok(row), None, Next::At(at + width))
+            }
+            None => lost(1),
+        },
+        3 => match file.get(at..at + 2 * width) {
+            Some(body) => {
+                let row = body.chunks(2).map(|pair| word(pair, 0)).collect();
+                (Ok(row), None, Next::At(at + 2 * width))
+            }
+            None => lost(1),
+        },
+        _ => {
+            let step = if kind == 9 { 2 } else { 4 };
+            let mut place = at;
+            let mut runs: Vec<(u64, u64)> = Vec::new();
+            let mut total = 0;
+            loop {
+                let Some(unit) = file.get(place..place + step) else {
+                    return lost(1);
+                };
+                let run = match kind {
+                    9 => (runs.len() as u64 % 2, word(unit, 0)),
+                    _ => (word(unit, 0), word(unit, 2)),
+                };
+                place += step;
+                runs.push(run);
+                total += run.1;
+                if total > ppl {
+                    return lost(7);
+                }
+                // A type 9 line closes with an OFF run, be it of no pixels.
+                let may_end = kind == 10 || run.0 == 0;
+                if total == ppl && may_end {
+                    return (Ok(spread(&runs)), None, Next::At(place));
+                }
+            }
+        }
+    }
+}

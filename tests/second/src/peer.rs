@@ -1,0 +1,41 @@
+//! Sheets that another program wrote, each with a note of its fields and pixels.
+
+use std::fs;
+use std::path::Path;
+
+pub const NAMES: [&str; 4] = ["bilevel.rle", "byte.cot", "byte_palette.cot", "uint16.ingr"];
+
+pub struct Peer {
+    pub name: &'static str,
+    pub file: Vec<u8>,
+    /// The words of the note's comments, such as `WTF 766 DTC 9`.
+    notes: Vec<String>,
+    pub rows: Vec<Vec<u64>>,
+}
+
+impl Peer {
+    pub fn load(dir: &Path, name: &'static str) -> Result<Peer, String> {
+        let path = dir.join(name);
+        let file = fs::read(&path).map_err(|error| format!("{}: {error}", path.display()))?;
+        let path = dir.join(format!("{name}.txt"));
+        let text =
+            fs::read_to_string(&path).map_err(|error| format!("{}: {error}", path.display()))?;
+        let (comments, pixels): (Vec<&str>, Vec<&str>) =
+            text.lines().partition(|line| line.starts_with('#'));
+        let notes = comments.iter().flat_map(|line| line.split_whitespace()).map(String::from);
+        let rows: Result<Vec<Vec<u64>>, _> =
+            pixels.iter().map(|line| line.split_whitespace().map(str::parse).collect()).collect();
+        let rows = rows.map_err(|error| format!("{}: {error}", path.display()))?;
+        Ok(Peer { name, file, notes: notes.collect(), rows })
+    }
+
+    pub fn all(dir: &Path) -> Result<Vec<Peer>, String> {
+        NAMES.iter().map(|name| Peer::load(dir, name)).collect()
+    }
+
+    /// The number that the note gives after a word, such as 766 after `WTF`.
+    pub fn note(&self, word: &str) -> Option<i64> {
+        let at = self.notes.iter().position(|note| note == word)?;
+        self.notes.get(at + 1)?.parse().ok()
+    }
+}
