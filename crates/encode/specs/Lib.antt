@@ -1,0 +1,4 @@
+pub mod Picture
+pub mod Header
+pub mod File
+pub mod Writing
