@@ -1,3 +1,5 @@
 pub mod Over
 pub mod Runs
 pub mod Bodies
+pub mod OverLaws
+pub mod WordLaws

@@ -5,6 +5,7 @@
 mod byte_body;
 mod pair_body;
 mod run_body;
+mod storing;
 mod word_body;
 
 pub use byte_body::write_bytes;
