@@ -3,3 +3,4 @@ pub mod Runs
 pub mod Bodies
 pub mod OverLaws
 pub mod WordLaws
+pub mod ByteLaws

@@ -3,8 +3,6 @@ use lib.Seq.{set-out}
 use borrow.Author.Needs.{needs}
 use Rattle.encoding.proofs.storing.put_byte.Statement.{statement}
 use Rattle.encoding.proofs.storing.put_byte.Tie as tie
-use Rattle.encoding.proofs.storing.put_byte.Reads as reads
-use Rattle.encoding.proofs.storing.put_byte.Lts as lts
 
 slice-write-out : tie.Need-slice-write-out
 slice-write-out c = search needs
@@ -16,7 +14,7 @@ returns : tie.Need-returns
 returns c = search needs
 
 returns-2 : tie.Need-returns-2
-returns-2 c = 
+returns-2 c =
     let a = c .before .args in
     sym (set-out (a .out .now) (a .at) (a .b) (c .if1 .left))
 

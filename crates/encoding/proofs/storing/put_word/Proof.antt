@@ -3,9 +3,6 @@ use mathlib.Core.Path.{refl}
 use borrow.Author.Needs.{needs}
 use Rattle.encoding.proofs.storing.put_word.Statement.{statement}
 use Rattle.encoding.proofs.storing.put_word.Tie as tie
-use Rattle.encoding.proofs.storing.put_word.Reads as reads
-use Rattle.encoding.proofs.storing.put_word.Lts as lts
-use Rattle.encoding.proofs.storing.put_byte.Reads as put-byte-reads
 
 cast-put-byte : tie.Need-cast-put-byte
 cast-put-byte c = search needs
@@ -29,7 +26,7 @@ same-length : tie.Need-same-length
 same-length c = search needs
 
 returns : tie.Need-returns
-returns c = 
+returns c =
     let s = c .before .before in
     let a = s .before .before .before .before .before .before .before .args in
     (refl, cc (add-one (a .at)))

@@ -1,20 +1,15 @@
-use Rattle.encoding.specs.WordLaws.{sets-none, sets-last}
-use Rattle.encoding.specs.WordLaws.{sets-pixel, sets-word, length-bytes}
-use Rattle.encoding.specs.OverLaws.{sets-over, sets-past}
-use Rattle.encoding.specs.Bodies.{wordsToBytes, wordBody}
-use Rattle.encoding.specs.Over.{over}
 use borrow.Author.Needs.{needs}
 use lib.Seq.{sets}
 use lib.ListN.{length, drop, length-set}
 use native.Mathlib.Omega.{arith}
-use Prim.Native.Nat.{ℕ, _-_, _*_, _+_, _≤_, _<_, zero-le}
-use mathlib.Core.Path.{_≡_, refl, _∙_, ap, sym}
+use Prim.Native.Nat.{_-_, _*_, _≤_, zero-le}
+use mathlib.Core.Path.{_≡_, refl, _∙_, sym}
+use Rattle.encoding.specs.WordLaws.{sets-none, sets-last, sets-pixel, length-bytes}
+use Rattle.encoding.specs.OverLaws.{sets-over}
+use Rattle.encoding.specs.Bodies.{wordsToBytes, wordBody}
+use Rattle.encoding.specs.Over.{over}
 use Rattle.encoding.proofs.word_body.write_words.Statement.{statement}
 use Rattle.encoding.proofs.word_body.write_words.Tie as tie
-use Rattle.encoding.proofs.word_body.write_words.Reads as reads
-use Rattle.encoding.proofs.word_body.write_words.Lts as lts
-use Rattle.encoding.proofs.storing.lesser.Reads as lesser-reads
-use Rattle.encoding.proofs.storing.put_word.Reads as put-word-reads
 
 abbrev Inv-loop : tie.InvT-loop
 Inv-loop row out₀ size n i₀ out i = (i ≤ n) × (length out ≡ length out₀) × (sets out (2 * i) (wordsToBytes (drop i row)) ≡ over (wordBody row) out₀)
@@ -65,7 +60,7 @@ loop-less : tie.Need-loop-less Inv-loop μ-loop
 loop-less c = search needs
 
 loop-again : tie.Need-loop-again Inv-loop μ-loop
-loop-again c = 
+loop-again c =
     let l = c .before .before .loop in
     let a = c .before .before .before .before .before .before .args in
     (omega arith, simp length-set (omega arith), sym (sets-pixel (a .row .now) (l .out) (l .i) (omega arith)) ∙ l .inv .2)
@@ -74,7 +69,7 @@ same-length : tie.Need-same-length Inv-loop μ-loop
 same-length c = search needs
 
 returns : tie.Need-returns Inv-loop μ-loop
-returns c = 
+returns c =
     let l = c .before .before .loop in
     let r = c .before .before .before .before .before .before .args .row .now in
     (sym (length-bytes r), sym (sets-none r (l .out) (l .i) (omega arith)) ∙ l .inv .2)
@@ -95,7 +90,7 @@ same-length-2 : tie.Need-same-length-2 Inv-loop μ-loop
 same-length-2 c = search needs
 
 returns-2 : tie.Need-returns-2 Inv-loop μ-loop
-returns-2 c = 
+returns-2 c =
     let t = c .before .before .before .before .before .before in
     let l = t .before .loop in
     let r = t .before .before .before .before .before .args .row .now in
