@@ -4,3 +4,6 @@ pub mod Bodies
 pub mod OverLaws
 pub mod WordLaws
 pub mod ByteLaws
+pub mod Left
+pub mod Leading
+pub mod RunLaws
