@@ -7,3 +7,4 @@ pub mod ByteLaws
 pub mod Left
 pub mod Leading
 pub mod RunLaws
+pub mod PairLaws
