@@ -1,5 +1,5 @@
 -- How many pixels at the start of a row have the value v.
-use Prim.Native.Nat.{ℕ, zero, suc, _+_, _≤_, _<_, zero-le}
+use Prim.Native.Nat.{ℕ, suc, _+_, _-_, _≤_, _<_, zero-le}
 use mathlib.Core.Path.{_≡_, refl, sym, _∙_, ap}
 use mathlib.Core.Bool.{Bool, true, false, cond}
 use mathlib.Core.List.{List, [], _∷_}
@@ -7,7 +7,7 @@ use native.Mathlib.Numerals.{add-one}
 use native.Mathlib.Omega.{arith}
 use borrow.Author.Tests.{eq-eqb, ne-eqb}
 use lib.ListN.{length, getD, drop, length-drop, drop-of-length-le}
-use lib.Seq.{drop-cons}
+use lib.Seq.{drop-cons, drop-drop}
 use lib.Dec.{eqb}
 
 unfoldable pub leading : ℕ → List ℕ → ℕ
@@ -39,3 +39,14 @@ module _ (row : List ℕ) (i v : ℕ) where
   pub leading-end : length row ≤ i → leading v (drop i row) ≡ 0
   unfolding leading
   leading-end h = rw (drop-of-length-le row {i = i} h)
+
+-- The run that starts at pixel i and ends at e: what is behind it, and its length.
+module _ (row : List ℕ) (i e v : ℕ) (h : e ≡ i + 1 + leading v (drop (i + 1) row)) where
+  ends : e ≡ suc i + leading v (drop (suc i) row)
+  ends = rw (add-one i) at h
+
+  pub run-behind : drop (leading v (drop (suc i) row)) (drop (suc i) row) ≡ drop e row
+  run-behind = drop-drop (leading v (drop (suc i) row)) (suc i) row ∙ ap (λ (m : ℕ). drop m row) (sym ends)
+
+  pub run-size : 1 + leading v (drop (suc i) row) ≡ e - i
+  run-size = omega (arith, ends)

@@ -6,5 +6,6 @@ pub mod WordLaws
 pub mod ByteLaws
 pub mod Left
 pub mod Leading
+pub mod Pieces
 pub mod RunLaws
 pub mod PairLaws

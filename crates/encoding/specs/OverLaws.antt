@@ -1,12 +1,12 @@
 -- Bytes put over a buffer, and the stores that put them there one by one. A store past the end changes nothing, so `sets`
 -- goes as far as the buffer does.
-use Prim.Native.Nat.{ℕ, zero, suc, _+_, _≤_, _<_}
+use Prim.Native.Nat.{ℕ, zero, suc, _+_, _≤_}
 use mathlib.Core.Path.{_≡_, refl, sym, _∙_, ap}
 use mathlib.Core.List.{List, [], _∷_, _++_}
-use native.Mathlib.Nat.{add-zero, add-suc, suc-add}
+use native.Mathlib.Nat.{add-zero, add-suc, suc-add, zero-add}
 use native.Mathlib.Omega.{arith}
 use lib.ListN.{length, take, drop, set}
-use lib.Seq.{sets, set-out, length-sets, take-nil, drop-nil}
+use lib.Seq.{sets, set-out, length-sets, take-nil, take-all}
 use Rattle.encoding.specs.Over.{over}
 
 pub sets-append : (l : List ℕ) (i : ℕ) (a b : List ℕ) → sets l i (a ++ b) ≡ sets (sets l i a) (i + length a) b
@@ -36,9 +36,16 @@ sets-over (b ∷ new) (x ∷ old) = sets-cons b old 0 new ∙ ap (λ (l : List �
 pub length-over : (new old : List ℕ) → length (over new old) ≡ length old
 length-over new old = ap length (sym (sets-over new old)) ∙ length-sets old 0 new
 
--- what is past the end is dropped
-pub over-full : (a b old : List ℕ) → length old ≤ length a → over (a ++ b) old ≡ over a old
-over-full a b old h =
-    sym (sets-over (a ++ b) old) ∙ sets-append old 0 a b
-    ∙ sets-past (sets old 0 a) (0 + length a) b (omega (arith, length-sets old 0 a))
-    ∙ sets-over a old
+-- more bytes behind the first, and all of them where there is room
+pub over-append : (a b old : List ℕ) → over (a ++ b) old ≡ sets (over a old) (length a) b
+over-append a b old = rw (← sets-over (a ++ b) old, ← sets-over a old, sets-append old 0 a b, zero-add (length a))
+
+pub over-fits : (new old : List ℕ) → length new ≤ length old → over new old ≡ new ++ drop (length new) old
+unfolding over
+over-fits new old h = rw (take-all (length old) new h)
+
+-- stores from `at` on are bytes put over the part that starts there
+pub sets-part : (l : List ℕ) (at : ℕ) (vs : List ℕ) → sets l at vs ≡ take at l ++ over vs (drop at l)
+sets-part l zero vs = sets-over vs l
+sets-part [] (suc at) vs = sets-past [] (suc at) vs (omega arith) ∙ sym (sets-past [] 0 vs (omega arith)) ∙ sets-over vs []
+sets-part (x ∷ l) (suc at) vs = sets-cons x l at vs ∙ ap (λ (r : List ℕ). x ∷ r) (sets-part l at vs)

@@ -4,41 +4,33 @@ use mathlib.Core.Path.{_≡_, refl, sym, _∙_, ap}
 use mathlib.Core.Bool.{Bool, true, false, cond}
 use mathlib.Core.List.{List, [], _∷_, _++_, append-nil}
 use native.Mathlib.Nat.{add-zero}
-use native.Mathlib.Numerals.{add-one}
 use native.Mathlib.Omega.{arith}
-use borrow.Author.Tests.{leb-false, le-leb, lt-leb}
 use lib.ListN.{length, getD, drop, length-append, drop-of-length-le}
-use lib.Seq.{drop-cons, drop-drop}
+use lib.Seq.{drop-cons}
 use lib.Dec.{eqb, leb}
 use Rattle.encoding.specs.Runs.{valuePieces, valueRuns, pairWords}
-use Rattle.encoding.specs.Leading.{leading}
-
--- the number of pieces that may be taken off does not matter where it is enough
-enough : (v m k n : ℕ) → n ≤ m → n ≤ k → valuePieces v m n ≡ valuePieces v k n
-unfolding valuePieces
-enough v zero zero n h g = refl
-enough v zero (suc k) n h g = rw (le-leb n 32767 (omega arith))
-enough v (suc m) zero n h g = rw (le-leb n 32767 (omega arith))
-enough v (suc m) (suc k) n h g =
-    go (leb n 32767) (λ l. let b = leb-false n 32767 l in enough v m k (n - 32767) (omega arith) (omega arith)) refl
-  where
-    go : (b : Bool) → (leb n 32767 ≡ false → valuePieces v m (n - 32767) ≡ valuePieces v k (n - 32767)) → leb n 32767 ≡ b
-        → cond b (v ∷ (n ∷ [])) (v ∷ (32767 ∷ valuePieces v m (n - 32767))) ≡ cond b (v ∷ (n ∷ [])) (v ∷ (32767 ∷ valuePieces v k (n - 32767)))
-    go true ih e = refl
-    go false ih e = ap (λ (r : List ℕ). v ∷ (32767 ∷ r)) (ih e)
+use Rattle.encoding.specs.Leading.{leading, run-behind, run-size}
+use Rattle.encoding.specs.Pieces.{pieces, short, long, size}
 
 module _ (v : ℕ) where
+  as-pieces : (m n : ℕ) → valuePieces v m n ≡ pieces (λ (k : ℕ). v ∷ (k ∷ [])) (v ∷ (32767 ∷ [])) m n
+  unfolding valuePieces pieces
+  as-pieces zero n = refl
+  as-pieces (suc m) n = ap (λ (r : List ℕ). cond (leb n 32767) (v ∷ (n ∷ [])) (v ∷ (32767 ∷ r))) (as-pieces m (n - 32767))
+
   pub pieces-short : (n : ℕ) → n ≤ 32767 → valuePieces v n n ≡ v ∷ (n ∷ [])
-  unfolding valuePieces
-  pieces-short zero h = refl
-  pieces-short (suc m) h = rw (le-leb (suc m) 32767 h)
+  pieces-short n h = as-pieces n n ∙ short (λ (k : ℕ). v ∷ (k ∷ [])) (v ∷ (32767 ∷ [])) n h
 
   pub pieces-long : (n : ℕ) → 32767 < n → valuePieces v n n ≡ v ∷ (32767 ∷ valuePieces v (n - 32767) (n - 32767))
-  unfolding valuePieces
-  pieces-long zero h = absurd (omega arith)
-  pieces-long (suc m) h =
-      rw (lt-leb (suc m) 32767 h)
-      (ap (λ (r : List ℕ). v ∷ (32767 ∷ r)) (enough v m (suc m - 32767) (suc m - 32767) (omega arith) (omega arith)))
+  pieces-long n h =
+      as-pieces n n ∙ long (λ (k : ℕ). v ∷ (k ∷ [])) (v ∷ (32767 ∷ [])) n h
+      ∙ ap (λ (r : List ℕ). v ∷ (32767 ∷ r)) (sym (as-pieces (n - 32767) (n - 32767)))
+
+  -- at most two words for each pixel
+  length-pieces : (n : ℕ) → 1 ≤ n → length (valuePieces v n n) ≤ 2 * n
+  length-pieces n h =
+      let s = size (λ (k : ℕ). v ∷ (k ∷ [])) (v ∷ (32767 ∷ [])) 2 (λ k. omega arith) (omega arith) n n h (omega arith) in
+      omega (arith, ap length (as-pieces n n), s)
 
 -- a run that holds n pixels so far takes those of its value that follow
 value-run : (v n : ℕ) (l : List ℕ)
@@ -62,37 +54,21 @@ pub next-pair : (row : List ℕ) (i e : ℕ) → i < length row → e ≡ i + 1 
 unfolding pairWords
 next-pair row i e h g =
     let v = getD row i 0 in
-    let k = leading v (drop (suc i) row) in
-    let s : e ≡ suc i + k = rw (add-one i) at g in
-    let d : drop k (drop (suc i) row) ≡ drop e row = drop-drop k (suc i) row ∙ ap (λ (m : ℕ). drop m row) (sym s) in
-    let n : 1 + k ≡ e - i = omega arith in
-    rw (drop-cons row i 0 h, value-run v 1 (drop (suc i) row), d, n)
+    rw (drop-cons row i 0 h, value-run v 1 (drop (suc i) row), run-behind row i e v g, run-size row i e v g)
 
 pub no-pair : (row : List ℕ) (i : ℕ) → length row ≤ i → pairWords (drop i row) ≡ []
 unfolding pairWords
 no-pair row i h = rw (drop-of-length-le row {i = i} h)
 
--- at most two words for each pixel
-length-pieces : (v m n : ℕ) → 1 ≤ n → n ≤ m → length (valuePieces v m n) ≤ 2 * n
-unfolding valuePieces
-length-pieces v zero n h g = absurd (omega arith)
-length-pieces v (suc m) n h g =
-    go (leb n 32767) (λ l. let b = leb-false n 32767 l in length-pieces v m (n - 32767) (omega arith) (omega arith)) refl
-  where
-    go : (b : Bool) → (leb n 32767 ≡ false → length (valuePieces v m (n - 32767)) ≤ 2 * (n - 32767)) → leb n 32767 ≡ b
-        → length (cond b (v ∷ (n ∷ [])) (v ∷ (32767 ∷ valuePieces v m (n - 32767)))) ≤ 2 * n
-    go true ih e = omega arith
-    go false ih e = omega (arith, ih e, leb-false n 32767 e)
-
 length-runs : (v n : ℕ) (l : List ℕ) → 1 ≤ n → length (valueRuns v n l) ≤ 2 * (n + length l)
 unfolding valueRuns
-length-runs v n [] h = omega (arith, length-pieces v n n h (omega arith))
+length-runs v n [] h = omega (arith, length-pieces v n h)
 length-runs v n (x ∷ r) h = go (eqb x v) (length-runs v (n + 1) r (omega arith)) (length-runs x 1 r (omega arith))
   where
     go : (b : Bool) → length (valueRuns v (n + 1) r) ≤ 2 * (n + 1 + length r) → length (valueRuns x 1 r) ≤ 2 * (1 + length r)
         → length (cond b (valueRuns v (n + 1) r) (valuePieces v n n ++ valueRuns x 1 r)) ≤ 2 * (n + suc (length r))
     go true same other = omega arith
-    go false same other = omega (arith, length-append (valuePieces v n n) (valueRuns x 1 r), length-pieces v n n h (omega arith))
+    go false same other = omega (arith, length-append (valuePieces v n n) (valueRuns x 1 r), length-pieces v n h)
 
 pub length-pairWords : (row : List ℕ) → length (pairWords row) ≤ 2 * length row
 unfolding pairWords

@@ -1,43 +1,35 @@
 -- Type 9: the pieces of a run, the runs from where one starts, and how many words there are.
-use Prim.Native.Nat.{ℕ, zero, suc, _+_, _-_, _*_, _≤_, _<_}
+use Prim.Native.Nat.{ℕ, zero, suc, _+_, _-_, _≤_, _<_}
 use mathlib.Core.Path.{_≡_, refl, sym, _∙_, ap}
 use mathlib.Core.Bool.{Bool, true, false, cond}
-use mathlib.Core.List.{List, [], _∷_, _++_, append-nil}
+use mathlib.Core.List.{List, [], _∷_, _++_}
 use native.Mathlib.Nat.{add-zero, zero-add}
-use native.Mathlib.Numerals.{add-one}
 use native.Mathlib.Omega.{arith}
-use borrow.Author.Tests.{leb-true, leb-false, le-leb, lt-leb}
-use lib.ListN.{length, getD, drop, length-append, drop-of-length-le}
-use lib.Seq.{drop-cons, drop-drop}
+use lib.ListN.{length, drop, length-append, drop-of-length-le}
+use lib.Seq.{drop-cons}
 use lib.Dec.{eqb, leb, eqb·suc-zero}
 use Rattle.encoding.specs.Runs.{levelRuns, levelPieces, cutLevels, runWords}
-use Rattle.encoding.specs.Leading.{leading}
+use Rattle.encoding.specs.Leading.{leading, run-behind, run-size}
+use Rattle.encoding.specs.Pieces.{pieces, short, long, size}
 
--- the number of pieces that may be taken off does not matter where it is enough
-enough : (m k n : ℕ) → n ≤ m → n ≤ k → levelPieces m n ≡ levelPieces k n
-unfolding levelPieces
-enough zero zero n h g = refl
-enough zero (suc k) n h g = rw (le-leb n 32767 (omega arith))
-enough (suc m) zero n h g = rw (le-leb n 32767 (omega arith))
-enough (suc m) (suc k) n h g =
-    go (leb n 32767) (λ l. let b = leb-false n 32767 l in enough m k (n - 32767) (omega arith) (omega arith)) refl
-  where
-    go : (b : Bool) → (leb n 32767 ≡ false → levelPieces m (n - 32767) ≡ levelPieces k (n - 32767)) → leb n 32767 ≡ b
-        → cond b (n ∷ []) (32767 ∷ (0 ∷ levelPieces m (n - 32767))) ≡ cond b (n ∷ []) (32767 ∷ (0 ∷ levelPieces k (n - 32767)))
-    go true ih e = refl
-    go false ih e = ap (λ (r : List ℕ). 32767 ∷ (0 ∷ r)) (ih e)
+as-pieces : (m n : ℕ) → levelPieces m n ≡ pieces (λ (k : ℕ). k ∷ []) (32767 ∷ (0 ∷ [])) m n
+unfolding levelPieces pieces
+as-pieces zero n = refl
+as-pieces (suc m) n = ap (λ (r : List ℕ). cond (leb n 32767) (n ∷ []) (32767 ∷ (0 ∷ r))) (as-pieces m (n - 32767))
 
 pub pieces-short : (n : ℕ) → n ≤ 32767 → levelPieces n n ≡ n ∷ []
-unfolding levelPieces
-pieces-short zero h = refl
-pieces-short (suc m) h = rw (le-leb (suc m) 32767 h)
+pieces-short n h = as-pieces n n ∙ short (λ (k : ℕ). k ∷ []) (32767 ∷ (0 ∷ [])) n h
 
 pub pieces-long : (n : ℕ) → 32767 < n → levelPieces n n ≡ 32767 ∷ (0 ∷ levelPieces (n - 32767) (n - 32767))
-unfolding levelPieces
-pieces-long zero h = absurd (omega arith)
-pieces-long (suc m) h =
-    rw (lt-leb (suc m) 32767 h)
-    (ap (λ (r : List ℕ). 32767 ∷ (0 ∷ r)) (enough m (suc m - 32767) (suc m - 32767) (omega arith) (omega arith)))
+pieces-long n h =
+    as-pieces n n ∙ long (λ (k : ℕ). k ∷ []) (32767 ∷ (0 ∷ [])) n h
+    ∙ ap (λ (r : List ℕ). 32767 ∷ (0 ∷ r)) (sym (as-pieces (n - 32767) (n - 32767)))
+
+-- a run of pixels has no more words than pixels
+length-pieces : (n : ℕ) → 1 ≤ n → length (levelPieces n n) ≤ n
+length-pieces n h =
+    let s = size (λ (k : ℕ). k ∷ []) (32767 ∷ (0 ∷ [])) 1 (λ k. omega arith) (omega arith) n n h (omega arith) in
+    omega (arith, ap length (as-pieces n n), s)
 
 -- What is left where a run of level v starts: that run and those behind it, or only the last empty OFF run.
 unfoldable pub nextRuns : ℕ → List ℕ → List ℕ
@@ -74,11 +66,7 @@ pub next-run : (row : List ℕ) (i e v : ℕ) → i < length row → e ≡ i + 1
     → wordsFrom row v i ≡ levelPieces (e - i) (e - i) ++ wordsFrom row (1 - v) e
 unfolding nextRuns cutLevels
 next-run row i e v h g =
-    let k = leading v (drop (suc i) row) in
-    let s : e ≡ suc i + k = rw (add-one i) at g in
-    let d : drop k (drop (suc i) row) ≡ drop e row = drop-drop k (suc i) row ∙ ap (λ (m : ℕ). drop m row) (sym s) in
-    let n : 1 + k ≡ e - i = omega arith in
-    rw (drop-cons row i 0 h, level-run v 1 (drop (suc i) row), d, n)
+    rw (drop-cons row i 0 h, level-run v 1 (drop (suc i) row), run-behind row i e v g, run-size row i e v g)
 
 -- no run starts past the end, but the last empty one where it is OFF's turn
 pub no-run-on : (row : List ℕ) (i : ℕ) → length row ≤ i → wordsFrom row 1 i ≡ []
@@ -89,24 +77,13 @@ pub no-run-off : (row : List ℕ) (i : ℕ) → length row ≤ i → wordsFrom r
 unfolding nextRuns cutLevels levelPieces
 no-run-off row i h = rw (drop-of-length-le row {i = i} h)
 
--- A run of pixels has no more pieces with their zero runs than it has pixels, and an empty one is one word.
-length-pieces : (m n : ℕ) → 1 ≤ n → n ≤ m → length (levelPieces m n) ≤ n
-unfolding levelPieces
-length-pieces zero n h g = absurd (omega arith)
-length-pieces (suc m) n h g = go (leb n 32767) (λ l. let b = leb-false n 32767 l in length-pieces m (n - 32767) (omega arith) (omega arith)) refl
-  where
-    go : (b : Bool) → (leb n 32767 ≡ false → length (levelPieces m (n - 32767)) ≤ n - 32767) → leb n 32767 ≡ b
-        → length (cond b (n ∷ []) (32767 ∷ (0 ∷ levelPieces m (n - 32767)))) ≤ n
-    go true ih e = h
-    go false ih e = omega (arith, ih e, leb-false n 32767 e)
-
 length-runs : (v n : ℕ) (l : List ℕ) → 1 ≤ n → length (cutLevels (levelRuns v n l)) ≤ n + length l + 1
 unfolding levelRuns cutLevels levelPieces
 length-runs v n [] h = go (eqb v 0)
   where
     go : (b : Bool) → length (cutLevels (cond b (n ∷ []) (n ∷ (0 ∷ [])))) ≤ n + 0 + 1
-    go true = omega (arith, length-append (levelPieces n n) [], length-pieces n n h (omega arith))
-    go false = omega (arith, length-append (levelPieces n n) (0 ∷ []), length-pieces n n h (omega arith))
+    go true = omega (arith, length-append (levelPieces n n) [], length-pieces n h)
+    go false = omega (arith, length-append (levelPieces n n) (0 ∷ []), length-pieces n h)
 length-runs v n (x ∷ r) h = go (eqb x v) (length-runs v (n + 1) r (omega arith)) (length-runs (1 - v) 1 r (omega arith))
   where
     go : (b : Bool) → length (cutLevels (levelRuns v (n + 1) r)) ≤ n + 1 + length r + 1
@@ -114,7 +91,7 @@ length-runs v n (x ∷ r) h = go (eqb x v) (length-runs v (n + 1) r (omega arith
         → length (cutLevels (cond b (levelRuns v (n + 1) r) (n ∷ levelRuns (1 - v) 1 r))) ≤ n + suc (length r) + 1
     go true same other = omega arith
     go false same other =
-        omega (arith, length-append (levelPieces n n) (cutLevels (levelRuns (1 - v) 1 r)), length-pieces n n h (omega arith))
+        omega (arith, length-append (levelPieces n n) (cutLevels (levelRuns (1 - v) 1 r)), length-pieces n h)
 
 pub length-runWords : (row : List ℕ) → length (runWords row) ≤ length row + 2
 unfolding levelRuns cutLevels levelPieces

@@ -1,7 +1,8 @@
-use lib.Seq.{sets}
+use Prim.Native.Nat.{ℕ}
+use mathlib.Core.List.{List}
+use mathlib.Core.Path.{ap, _≡_, sym, _∙_}
 use lib.ListN.{length, set}
 use mathlib.Core.Logic.{⊎-elim}
-use mathlib.Core.Path.{_≡_, sym, _∙_}
 use borrow.Author.Needs.{needs}
 use Rattle.encoding.specs.ByteLaws.{lowBytes, body-spare, body-even, body-bare, length-low, length-spare, sets-spare}
 use Rattle.encoding.specs.OverLaws.{sets-over}
@@ -24,12 +25,11 @@ same-length c = search needs
 returns : tie.Need-returns
 returns c =
     let s = c .before .before .before .before in
-    let u = s .before .before .before .before .before in
-    let a = u .before .before .before .args in
+    let u = s .before .before .before .before in
+    let a = u .before .before .before .before .args in
     let r = a .row .now in
-    let e : c .before .before .put-byte .last .0 ≡ set (sets (a .out .now) 0 (lowBytes r)) (length r) 0 = cc in
-    rw (body-spare (a .scn) r (s .before .if1 .taken) (s .if2 .taken))
-    (sym (length-spare r), e ∙ sets-spare r (a .out .now))
+    let e = c .before .before .put-byte .ensures ∙ ap (λ (l : List ℕ). set l (length r) 0) (u .put-low-bytes .ensures) in
+    rw (body-spare (a .scn) r (s .before .if1 .taken) (s .if2 .taken)) (sym (length-spare r), e ∙ sets-spare r (a .out .now))
 
 same-length-2 : tie.Need-same-length-2
 same-length-2 c = search needs

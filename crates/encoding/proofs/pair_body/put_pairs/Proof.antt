@@ -25,15 +25,13 @@ loop-holds c = (refl, record { puts = refl; ends = refl })
 
 put-word-requires : tie.Need-put-word-requires Inv-loop μ-loop
 put-word-requires c κs =
-    let t = c .before in
-    let v = t .before .before .before .args .v in
-    omega (arith, ap length (pieces-long v (t .before .loop .left) (t .loop-test .taken)))
+    let l = c .before .before in
+    omega (arith, ap length (pieces-long (l .before .before .args .v) (l .loop .left) (omega arith)))
 
 put-word-requires-2 : tie.Need-put-word-requires-2 Inv-loop μ-loop
 put-word-requires-2 c κs =
-    let t = c .before .before .before .before .before in
-    let v = t .before .before .before .args .v in
-    omega (arith, ap length (pieces-long v (t .before .loop .left) (t .loop-test .taken)))
+    let l = c .before .before .before .before .before .before in
+    omega (arith, ap length (pieces-long (l .before .before .args .v) (l .loop .left) (omega arith)))
 
 sub-left : tie.Need-sub-left Inv-loop μ-loop
 sub-left c = search needs
@@ -43,41 +41,39 @@ loop-less c = search needs
 
 loop-again : tie.Need-loop-again Inv-loop μ-loop
 loop-again c =
-    let t = c .before .before .before .before .before .before .before .before in
-    let l = t .before .loop in
-    let v = t .before .before .before .args .v in
+    let t = c .before .before .before .before .before .before .before .before .before in
+    let l = t .loop in
+    let v = t .before .before .args .v in
     let w = c .before .before .before .before .before .before .put-word in
     let k = c .before .before .put-word2 in
     let r = valuePieces v (l .left - 32767) (l .left - 32767) in
-    let p = left-word (w .last .0) (w .result) v (32767 ∷ r) (pieces-long v (l .left) (t .loop-test .taken)) (l .inv .1) (w .ensures .0) (w .ensures .1) in
+    let p = left-word (w .last .0) (w .result) v (32767 ∷ r) (pieces-long v (l .left) (omega arith)) (l .inv .1) (w .ensures .0) (w .ensures .1) in
     (omega arith, left-word (k .last .0) (k .result) 32767 r refl p (k .ensures .0) (k .ensures .1))
 
 put-word-requires-3 : tie.Need-put-word-requires-3 Inv-loop μ-loop
 put-word-requires-3 c κs =
-    let t = c .before in
-    let v = t .before .before .before .args .v in
-    omega (arith, ap length (pieces-short v (t .before .loop .left) (t .loop-test .left)))
+    let l = c .before .before in
+    omega (arith, ap length (pieces-short (l .before .before .args .v) (l .loop .left) (omega arith)))
 
 cast-put-word : tie.Need-cast-put-word Inv-loop μ-loop
 cast-put-word c = search needs
 
 put-word-requires-4 : tie.Need-put-word-requires-4 Inv-loop μ-loop
 put-word-requires-4 c κs =
-    let t = c .before .before .before .before .before in
-    let v = t .before .before .before .args .v in
-    omega (arith, ap length (pieces-short v (t .before .loop .left) (t .loop-test .left)))
+    let l = c .before .before .before .before .before .before in
+    omega (arith, ap length (pieces-short (l .before .before .args .v) (l .loop .left) (omega arith)))
 
 same-length : tie.Need-same-length Inv-loop μ-loop
 same-length c = search needs
 
 returns : tie.Need-returns Inv-loop μ-loop
 returns c =
-    let t = c .before .before .before .before .before .before .before .before in
-    let l = t .before .loop in
-    let v = t .before .before .before .args .v in
+    let t = c .before .before .before .before .before .before .before .before .before in
+    let l = t .loop in
+    let v = t .before .before .args .v in
     let w = c .before .before .before .before .before .before .put-word3 in
     let k = c .before .before .put-word4 in
-    let p = left-word (w .last .0) (w .result) v (l .left ∷ []) (pieces-short v (l .left) (t .loop-test .left)) (l .inv .1) (w .ensures .0) (w .ensures .1) in
+    let p = left-word (w .last .0) (w .result) v (l .left ∷ []) (pieces-short v (l .left) (omega arith)) (l .inv .1) (w .ensures .0) (w .ensures .1) in
     let q = left-word (k .last .0) (k .result) (l .left) [] refl p (k .ensures .0) (k .ensures .1) in
     (omega (arith, q .ends), left-none refl q)
 

@@ -22,14 +22,10 @@ loop-holds : tie.Need-loop-holds Inv-loop μ-loop
 loop-holds c = (refl, record { puts = refl; ends = refl })
 
 put-word-requires : tie.Need-put-word-requires Inv-loop μ-loop
-put-word-requires c κs =
-    let n = c .before .before .loop .left in
-    omega (arith, ap length (pieces-long n (c .before .loop-test .taken)))
+put-word-requires c κs = omega (arith, ap length (pieces-long (c .before .before .loop .left) (omega arith)))
 
 put-word-requires-2 : tie.Need-put-word-requires-2 Inv-loop μ-loop
-put-word-requires-2 c κs =
-    let t = c .before .before .before .before .before in
-    omega (arith, ap length (pieces-long (t .before .loop .left) (t .loop-test .taken)))
+put-word-requires-2 c κs = omega (arith, ap length (pieces-long (c .before .before .before .before .before .before .loop .left) (omega arith)))
 
 sub-left : tie.Need-sub-left Inv-loop μ-loop
 sub-left c = search needs
@@ -39,31 +35,27 @@ loop-less c = search needs
 
 loop-again : tie.Need-loop-again Inv-loop μ-loop
 loop-again c =
-    let t = c .before .before .before .before .before .before .before .before in
-    let l = t .before .loop in
+    let l = c .before .before .before .before .before .before .before .before .before .loop in
     let w = c .before .before .before .before .before .before .put-word in
     let z = c .before .before .put-word2 in
     let r = levelPieces (l .left - 32767) (l .left - 32767) in
-    let p = left-word (w .last .0) (w .result) 32767 (0 ∷ r) (pieces-long (l .left) (t .loop-test .taken)) (l .inv .1) (w .ensures .0) (w .ensures .1) in
+    let p = left-word (w .last .0) (w .result) 32767 (0 ∷ r) (pieces-long (l .left) (omega arith)) (l .inv .1) (w .ensures .0) (w .ensures .1) in
     (omega arith, left-word (z .last .0) (z .result) 0 r refl p (z .ensures .0) (z .ensures .1))
 
 cast-put-word : tie.Need-cast-put-word Inv-loop μ-loop
 cast-put-word c = search needs
 
 put-word-requires-3 : tie.Need-put-word-requires-3 Inv-loop μ-loop
-put-word-requires-3 c κs =
-    let n = c .before .before .loop .left in
-    omega (arith, ap length (pieces-short n (c .before .loop-test .left)))
+put-word-requires-3 c κs = omega (arith, ap length (pieces-short (c .before .before .loop .left) (omega arith)))
 
 same-length : tie.Need-same-length Inv-loop μ-loop
 same-length c = search needs
 
 returns : tie.Need-returns Inv-loop μ-loop
 returns c =
-    let t = c .before .before .before .before in
-    let l = t .before .loop in
+    let l = c .before .before .before .before .before .loop in
     let w = c .before .before .put-word3 in
-    let p = left-word (w .last .0) (w .result) (l .left) [] (pieces-short (l .left) (t .loop-test .left)) (l .inv .1) (w .ensures .0) (w .ensures .1) in
+    let p = left-word (w .last .0) (w .result) (l .left) [] (pieces-short (l .left) (omega arith)) (l .inv .1) (w .ensures .0) (w .ensures .1) in
     (omega (arith, p .ends), left-none refl p)
 
 pub put-run-spec : {M : Type 1} → statement M

@@ -105,7 +105,8 @@ returns c =
     let l = c .before .before .loop in
     let s = c .before .before .before in
     let r = s .before .before .before .before .before .before .before .args .row .now in
-    let z : wordsFrom r (l .level) (l .i) ≡ [] = rw (c .if1 .taken) (no-run-on r (l .i) (c .before .loop-test .left)) in
+    let v : l .level ≡ 1 = omega arith in
+    let z : wordsFrom r (l .level) (l .i) ≡ [] = rw v (no-run-on r (l .i) (c .before .loop-test .left)) in
     (omega (arith, ap length z, l .inv .3 .ends, started s .ends, length-bytes (runWords r)), left-none z (l .inv .3) ∙ started s .puts)
 
 put-word-requires : tie.Need-put-word-requires Inv-loop μ-loop

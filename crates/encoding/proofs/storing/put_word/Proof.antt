@@ -1,5 +1,5 @@
+use mathlib.Core.Path.{refl, _∙_}
 use native.Mathlib.Numerals.{add-one}
-use mathlib.Core.Path.{refl}
 use borrow.Author.Needs.{needs}
 use Rattle.encoding.proofs.storing.put_word.Statement.{statement}
 use Rattle.encoding.proofs.storing.put_word.Tie as tie
@@ -28,8 +28,9 @@ same-length c = search needs
 returns : tie.Need-returns
 returns c =
     let s = c .before .before in
-    let a = s .before .before .before .before .before .before .before .args in
-    (refl, cc (add-one (a .at)))
+    let f = s .before .before .before .before in
+    let a = f .before .before .before .args in
+    (refl, s .put-byte2 .ensures ∙ rw (f .put-byte .ensures, add-one (a .at)))
 
 pub put-word-spec : {M : Type 1} → statement M
 put-word-spec =
