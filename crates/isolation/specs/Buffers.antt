@@ -12,33 +12,11 @@ use lib.Dec.{eqb}
 use borrow.Author.Tests.{eqb-true, eq-eqb, ne-eqb}
 use Rattle.layout.specs.Scanline.{reading, unreached, lineOf}
 use Rattle.layout.specs.Chain.{scnOf, typeOf, pplOf, numberOf, lineAt, start, reached, readingAt, rows, statuses, good}
+use Rattle.layout.specs.ChainLaws.{length-reading, length-rows, length-statuses, good-most}
 use Rattle.isolation.specs.Statement.{LineIs}
 use Rattle.isolation.specs.Chained.{below-next}
 
--- every scanline has a row of p pixels
-abbrev pub RowsFull : Type 0
-RowsFull = (scn t p number : ℕ) (rest : List ℕ) → length (lineOf scn t p number rest .reading .row) ≡ p
-
-module _ (rows-full : RowsFull) (f : List ℕ) where
-  length-reading : (k : ℕ) → length (readingAt f k .row) ≡ pplOf f
-  unfolding readingAt
-  length-reading k = go (reached f k)
-    where
-      go : (t : Bool) → length (cond t (lineAt f (start f k) k .reading) (unreached (pplOf f)) .row) ≡ pplOf f
-      go true = rows-full (scnOf f) (typeOf f) (pplOf f) (numberOf f k) (drop (start f k) f)
-      go false = length-replicate (pplOf f) 0
-
-  pub length-rows : (n : ℕ) → length (rows f n) ≡ n * pplOf f
-  unfolding rows
-  length-rows zero = sym (zero-mul (pplOf f))
-  length-rows (suc n) =
-      rw (length-append (rows f n) (readingAt f n .row), length-rows n, length-reading n) (sym (suc-mul n (pplOf f)))
-
-  pub length-statuses : (n : ℕ) → length (statuses f n) ≡ n
-  unfolding statuses
-  length-statuses zero = refl
-  length-statuses (suc n) = omega (arith, length-append (statuses f n) (readingAt f n .status ∷ []), length-statuses n)
-
+module _ (f : List ℕ) where
   -- scanline k of n, whatever follows
   pub row-there : (n k : ℕ) (rest : List ℕ) → k < n
       → take (pplOf f) (drop (k * pplOf f) (rows f n ++ rest)) ≡ readingAt f k .row
@@ -50,8 +28,8 @@ module _ (rows-full : RowsFull) (f : List ℕ) where
         | inl l ↦ row-there n k (readingAt f n .row ++ rest) l
         | inr e ↦ rw (
           e,
-          drop-at (rows f n) (readingAt f n .row ++ rest) (n * pplOf f) (length-rows n),
-          take-at (readingAt f n .row) rest (pplOf f) (length-reading n),
+          drop-at (rows f n) (readingAt f n .row ++ rest) (n * pplOf f) (length-rows f n),
+          take-at (readingAt f n .row) rest (pplOf f) (length-reading f n),
         )
       ])
 
@@ -62,7 +40,7 @@ module _ (rows-full : RowsFull) (f : List ℕ) where
       rw (append-assoc (statuses f n) (readingAt f n .status ∷ []) rest)
       (elim (below-next k n h) [
         | inl l ↦ status-there n k (readingAt f n .status ∷ rest) l
-        | inr e ↦ rw (e, getD-at (statuses f n) (readingAt f n .status) rest 0 n (length-statuses n))
+        | inr e ↦ rw (e, getD-at (statuses f n) (readingAt f n .status) rest 0 n (length-statuses f n))
       ])
 
   pub line-there : (n k : ℕ) (pixels marks : List ℕ) → k < n
@@ -74,15 +52,6 @@ abbrev pub AllGood : List ℕ → ℕ → Type 0
 AllGood f n = (k : ℕ) → k < n → readingAt f k .status ≡ 0
 
 module _ (f : List ℕ) where
-  good-within : (n : ℕ) → good f n ≤ n
-  unfolding good
-  good-within zero = omega arith
-  good-within (suc n) = go (eqb (readingAt f n .status) 0) (good-within n)
-    where
-      go : (t : Bool) → good f n ≤ n → good f n + cond t 1 0 ≤ suc n
-      go true h = omega arith
-      go false h = omega arith
-
   good-last : (n : ℕ) → good f (suc n) ≡ suc n → (readingAt f n .status ≡ 0) × (good f n ≡ n)
   unfolding good
   good-last n h = go (eqb (readingAt f n .status) 0) refl h
@@ -90,7 +59,7 @@ module _ (f : List ℕ) where
       go : (t : Bool) → eqb (readingAt f n .status) 0 ≡ t → good f n + cond t 1 0 ≡ suc n
           → (readingAt f n .status ≡ 0) × (good f n ≡ n)
       go true e h = (eqb-true (readingAt f n .status) 0 e, omega arith)
-      go false e h = absurd (omega (arith, good-within n))
+      go false e h = absurd (omega (arith, good-most f n))
 
   pub good-all : (n : ℕ) → good f n ≡ n → AllGood f n
   good-all zero h k l = absurd (omega arith)

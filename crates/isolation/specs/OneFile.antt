@@ -12,7 +12,7 @@ use Rattle.layout.specs.Chain.{scnOf, typeOf, pplOf, nolOf, numberOf, reached, 
 use Rattle.layout.specs.Reading.{rasterRejection, rasterReading, pixelsAfter, marksAfter}
 use Rattle.isolation.specs.Statement.{LineIs, OneReading, headAt, bodyAt}
 use Rattle.isolation.specs.Chained.{reading-reached, reading-unreached}
-use Rattle.isolation.specs.Buffers.{RowsFull, AllGood, line-there, answer-good, blank-row}
+use Rattle.isolation.specs.Buffers.{AllGood, line-there, answer-good, blank-row}
 
 -- the reading of scanline k of h
 module _ (f h : List ℕ) (same : fieldsOf h ≡ fieldsOf f) (one : scnOf h ≡ 1)
@@ -36,7 +36,7 @@ module _ (f h : List ℕ) (same : fieldsOf h ≡ fieldsOf f) (one : scnOf h ≡ 
       go false r = rw (no-reading k r)
 
 -- the answer and the buffers
-module _ (rows-full : RowsFull) (f h : List ℕ) (same : fieldsOf h ≡ fieldsOf f) (one : scnOf h ≡ 1)
+module _ (f h : List ℕ) (same : fieldsOf h ≡ fieldsOf f) (one : scnOf h ≡ 1)
     (same-reached : (k : ℕ) → reached h k ≡ reached f k) (pixels marks : List ℕ)
     (taken : rasterRejection h (length pixels) (length marks) ≡ 0) where
   pub line-is : (k : ℕ) → k < nolOf f
@@ -47,7 +47,7 @@ module _ (rows-full : RowsFull) (f h : List ℕ) (same : fieldsOf h ≡ fieldsOf
       (λ (x : Fields).
       (k : ℕ) → k < x .nol → LineIs (x .ppl) k (pixelsAfter h pixels marks) (marksAfter h pixels marks) (readingAt h k))
       same
-      (λ k l. rw taken (line-there rows-full h (nolOf h) k (drop (nolOf h * pplOf h) pixels) (drop (nolOf h) marks) l))
+      (λ k l. rw taken (line-there h (nolOf h) k (drop (nolOf h * pplOf h) pixels) (drop (nolOf h) marks) l))
 
   answer-is : (rasterReading h pixels marks .answer ≡ 0) ↔ AllGood h (nolOf f)
   unfolding rasterReading

@@ -58,8 +58,9 @@ pub record TwoReadings (f g : List ℕ) (r₁ : RasterNumbers) (pixels₁ marks�
   pub same-reached : (k : ℕ) → k ≤ nolOf f → reached g k ≡ reached f k
   pub same-start : (k : ℕ) → k ≤ nolOf f → start g k ≡ start f k
   pub same-end : r₂ .end ≡ r₁ .end
-  -- a scanline whose body has the same bytes in both files, or that has none, has the same status and row in both
+  -- a scanline whose body has the same bytes in both files has the same status and row in both, and so has one without a body
   pub same-line : (k : ℕ) → k < nolOf f → bodyAt g k ≡ bodyAt f k → SameLine (pplOf f) k pixels₁ marks₁ pixels₂ marks₂
+  pub no-body : (k : ℕ) → k < nolOf f → bodyAt f k ≡ [] → SameLine (pplOf f) k pixels₁ marks₁ pixels₂ marks₂
 
 -- The claim. The second reading was lent buffers of `room` pixels and `lines` statuses: it is rejected only where one of
 -- them is too short.

@@ -2,3 +2,4 @@ pub mod Scanline
 pub mod Chain
 pub mod Reading
 pub mod LineLaws
+pub mod ChainLaws

@@ -13,7 +13,7 @@ use borrow.Rule.Slice.PartMut.{putMid, postOf, post-is}
 use Rattle.header.specs.Rejections.{rejection}
 use Rattle.header.specs.Accepted.{Accepted, accepted}
 use Rattle.layout.specs.Scanline.{Line, Reading, lineOf, headedLine, openLine, unreached}
-use Rattle.layout.specs.LineLaws.{used-within, lost-used, length-row as line-full}
+use Rattle.layout.specs.LineLaws.{used-within, lost-used}
 use Rattle.layout.specs.Chain.{pplOf, nolOf, scnOf, typeOf, numberOf, dataStart, lineAt, start, reached, readingAt, rows, statuses, good}
 
 -- a scanline after the chain has been followed to it
@@ -49,32 +49,6 @@ pub store-next : (done old : List ℕ) (k v : ℕ) → length done ≡ k → k <
 store-next done old k v l h =
     rw (drop-cons old k 0 h, set-at done (getD old k 0) (drop (suc k) old) v k l) (sym (append-assoc done (v ∷ []) (drop (suc k) old)))
 
--- the rows and statuses of the first k scanlines
-pub length-statuses : (f : List ℕ) (k : ℕ) → length (statuses f k) ≡ k
-unfolding statuses
-length-statuses f zero = refl
-length-statuses f (suc k) =
-    let e = length-append (statuses f k) (readingAt f k .status ∷ []) in
-    omega (arith, e, length-statuses f k)
-
-module _ (f : List ℕ) where
-  full-if : (k : ℕ) (b : Bool) → length (cond b (lineAt f (start f k) k .reading) (unreached (pplOf f)) .row) ≡ pplOf f
-  full-if k true = line-full (scnOf f) (typeOf f) (pplOf f) (numberOf f k) (drop (start f k) f)
-  full-if k false = length-replicate (pplOf f) 0
-
-  pub length-row : (k : ℕ) → length (readingAt f k .row) ≡ pplOf f
-  unfolding readingAt
-  length-row k = full-if k (reached f k)
-
-  pub length-rows : (k : ℕ) → length (rows f k) ≡ k * pplOf f
-  unfolding rows
-  length-rows zero = sym (zero-mul (pplOf f))
-  length-rows (suc k) =
-      length-append (rows f k) (readingAt f k .row)
-      ∙ ap (λ (n : ℕ). n + length (readingAt f k .row)) (length-rows k)
-      ∙ ap (λ (n : ℕ). k * pplOf f + n) (length-row k)
-      ∙ sym (suc-mul k (pplOf f))
-
 -- every scanline starts within the file
 pub start-within : (f : List ℕ) → dataStart f ≤ length f → (k : ℕ) → start f k ≤ length f
 unfolding start
@@ -82,16 +56,6 @@ start-within f h zero = h
 start-within f h (suc k) =
     let i : start f k ≤ length f = start-within f h k in
     omega (arith, used-within (scnOf f) (typeOf f) (pplOf f) (numberOf f k) (drop (start f k) f), length-drop (start f k) f, i)
-
--- at most k of the first k are good
-one-more : (b : Bool) (g k : ℕ) → g ≤ k → g + cond b 1 0 ≤ suc k
-one-more true g k h = omega arith
-one-more false g k h = omega arith
-
-pub good-most : (f : List ℕ) (k : ℕ) → good f k ≤ k
-unfolding good
-good-most f zero = zero-le
-good-most f (suc k) = one-more (eqb (readingAt f k .status) 0) (good f k) k (good-most f k)
 
 pub good-next : (f : List ℕ) (k : ℕ) → good f (suc k) ≡ good f k + cond (eqb (readingAt f k .status) 0) 1 0
 unfolding good

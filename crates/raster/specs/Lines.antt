@@ -13,7 +13,8 @@ use Rattle.header.specs.Fields.{fieldsOf}
 use Rattle.layout.specs.Chain.{pplOf, nolOf, start, reached, readingAt, rows, statuses, good}
 use Rattle.raster.specs.declared.Chain.{Chain}
 use Rattle.raster.specs.Answer.{FirstChain, ChainAt, Stepped}
-use Rattle.raster.specs.Laws.{replace-part, store-next, length-rows, length-row, length-statuses}
+use Rattle.layout.specs.ChainLaws.{length-rows, length-reading, length-statuses}
+use Rattle.raster.specs.Laws.{replace-part, store-next}
 
 pub record LinesAt (f pixels₀ marks₀ pixels marks : List ℕ) (c : Chain) (k : ℕ) : Type 0 where
   pub low : k ≤ nolOf f
@@ -57,7 +58,7 @@ module _ (f pixels₀ marks₀ pixels marks : List ℕ) (c : Chain) (k : ℕ) (n
   unfolding rows statuses
   lines-next d row s =
       let p = pplOf f in
-      let full : length row ≡ p = ap length (s .row-is) ∙ length-row f k in
+      let full : length row ≡ p = ap length (s .row-is) ∙ length-reading f k in
       let e : k * p + p ≡ k * p + length row = ap (λ (n : ℕ). k * p + n) (sym full) in
       let end : suc k * p ≡ k * p + p = suc-mul k p in
       let g : k * p + p ≤ length pixels₀ = row-within k (nolOf f) p (length pixels₀) more room in

@@ -3,7 +3,8 @@ use native.Mathlib.Omega.{arith}
 use Prim.Native.Nat.{_+_, _≤_}
 use borrow.Author.Needs.{needs}
 use Rattle.raster.specs.Steps.{step-lost, step-on, next-within, one-most}
-use Rattle.raster.specs.Laws.{start-within, good-most}
+use Rattle.layout.specs.ChainLaws.{good-most}
+use Rattle.raster.specs.Laws.{start-within}
 use Rattle.header.specs.Accepted.{accepted}
 use Rattle.raster.proofs.read_line.Statement.{statement}
 use Rattle.raster.proofs.read_line.Tie as tie

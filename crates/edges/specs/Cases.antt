@@ -1,0 +1,133 @@
+-- "Sheets at the edges", cases 1 to 10, 12 and 13: one table under one statement. Each case is a whole file, read through the
+-- definitions that the promises of `read_header` and `read_raster` cite.
+use Prim.Native.Nat.{ℕ, _-_}
+use mathlib.Core.Path.{_≡_, refl}
+use mathlib.Core.List.{List, [], _∷_, _++_, map}
+use lib.ListN.{replicate}
+use Rattle.units.specs.LittleEndian.{u16At, u32At}
+use Rattle.units.specs.Scan.{scan}
+use Rattle.units.specs.Words.{words}
+use Rattle.header.specs.Rejections.{rejection, isDataType, slotOccurs, sharesSlot}
+use Rattle.header.specs.Reading.{headerReading}
+use Rattle.bodies.specs.Pixels.{runPixels, runTotal, pairPixels, pairTotal}
+use Rattle.bodies.specs.Extents.{runsFrom, pairsFrom}
+use Rattle.layout.specs.Scanline.{bodyRows, bodyPixels, bodyExtent, headOf, bodyOf, reading, isLost, openLost}
+use Rattle.layout.specs.Chain.{start, reached, readingAt, statuses, rows, good}
+use Rattle.layout.specs.Reading.{rasterRejection, rasterReading, pixelsAfter, marksAfter}
+use Rattle.edges.specs.Files.{header, word, line, oneLine, twoOpen, asBytes, environ}
+
+-- A file; the blocks of its header and the kind and size of its resolution, zeros where it is rejected; and of its reading
+-- the answer, the good lines, the end, and the buffers afterwards.
+pub record Case : Type 0 where
+  pub file : List ℕ
+  pub blocks : ℕ
+  pub kind : ℕ
+  pub size : ℕ
+  pub answer : ℕ
+  pub good : ℕ
+  pub end : ℕ
+  pub marks : List ℕ
+  pub pixels : List ℕ
+
+-- the buffers that are lent: 17 pixels and 3 marks, with something in them
+lentPixels : List ℕ
+lentPixels = replicate 17 7
+
+lentMarks : List ℕ
+lentMarks = replicate 3 7
+
+-- the case with what the definitions give
+pub computed : Case → Case
+computed c =
+    let h = headerReading (c .file) in
+    let r = rasterReading (c .file) lentPixels lentMarks in
+    record
+    { file = c .file
+    ; blocks = h .blocks
+    ; kind = h .resolution .kind
+    ; size = h .resolution .size
+    ; answer = r .answer
+    ; good = r .good
+    ; end = r .end
+    ; marks = marksAfter (c .file) lentPixels lentMarks
+    ; pixels = pixelsAfter (c .file) lentPixels lentMarks
+    }
+
+-- a rejected file: nothing but the number, and the buffers as they were
+rejects : List ℕ → ℕ → Case
+rejects f n =
+    record
+    { file = f
+    ; blocks = 0
+    ; kind = 0
+    ; size = 0
+    ; answer = n
+    ; good = 0
+    ; end = 0
+    ; marks = lentMarks
+    ; pixels = lentPixels
+    }
+
+-- a file of two blocks and no resolution that is read: answer, good lines, end, marks and pixels, and what was there
+reads : List ℕ → ℕ → ℕ → ℕ → List ℕ → List ℕ → Case
+reads f answer good end marks pixels =
+    record { file = f; blocks = 2; kind = 0; size = 0; answer = answer; good = good; end = end; marks = marks; pixels = pixels }
+
+-- one scanline of P 8: its mark, its row and the end
+one : List ℕ → ℕ → List ℕ → ℕ → Case
+one f mark row end = reads f 1 0 end (mark ∷ (7 ∷ (7 ∷ []))) (row ++ replicate 9 7)
+
+oneGood : List ℕ → List ℕ → ℕ → Case
+oneGood f row end = reads f 0 1 end (0 ∷ (7 ∷ (7 ∷ []))) (row ++ replicate 9 7)
+
+blank : List ℕ
+blank = replicate 8 0
+
+pub cases : List Case
+cases =
+    -- 1: an empty file
+    rejects [] 11 ∷
+    -- 2: WTF 510 is two blocks, and 509 none. The file ends with its header, so the scanline is lost.
+    one (header 2 9 8 1 1) 1 blank 1024 ∷
+    rejects (word 2 509 (header 2 9 8 1 1)) 13 ∷
+    -- 3: a type 9 body
+    oneGood (oneLine 9 (3 ∷ 2 ∷ 3 ∷ [])) (0 ∷ 0 ∷ 0 ∷ 1 ∷ 1 ∷ 0 ∷ 0 ∷ 0 ∷ []) 1038 ∷
+    -- 4: a total above P, one below, and an even number of words
+    one (oneLine 9 (3 ∷ 2 ∷ 4 ∷ [])) 7 blank 1038 ∷
+    one (oneLine 9 (3 ∷ [])) 8 blank 1034 ∷
+    one (oneLine 9 (3 ∷ 2 ∷ [])) 6 blank 1036 ∷
+    -- 5: zero runs
+    oneGood (oneLine 9 (8 ∷ 0 ∷ 0 ∷ [])) blank 1038 ∷
+    -- 6: no headers, two lines: the first takes three words
+    reads (twoOpen 9 (3 ∷ 5 ∷ 0 ∷ 8 ∷ [])) 0 2 1032 (0 ∷ (0 ∷ (7 ∷ []))) ((0 ∷ 0 ∷ 0 ∷ 1 ∷ 1 ∷ 1 ∷ 1 ∷ 1 ∷ []) ++ (blank ++ (7 ∷ []))) ∷
+    -- 7: no headers, two lines: the first takes one word
+    reads (twoOpen 9 (8 ∷ 0 ∷ 0 ∷ 8 ∷ [])) 0 2 1032 (0 ∷ (0 ∷ (7 ∷ []))) (blank ++ (blank ++ (7 ∷ []))) ∷
+    -- 8: W 2 in types 9 and 10, and W 1
+    one (oneLine 9 []) 6 blank 1032 ∷
+    one (oneLine 10 []) 8 blank 1032 ∷
+    reads (header 2 9 8 2 1 ++ line 1 1 []) 1 0 1024 (3 ∷ (9 ∷ (7 ∷ []))) (blank ++ (blank ++ (7 ∷ []))) ∷
+    -- 9: type 10, value then count
+    oneGood (oneLine 10 (7 ∷ 8 ∷ [])) (replicate 8 7) 1036 ∷
+    one (oneLine 10 (8 ∷ 7 ∷ [])) 8 blank 1036 ∷
+    -- 10: type 2 with an odd P and a spare byte
+    reads (header 2 2 3 1 1 ++ line 4 1 (5 ∷ 6 ∷ 7 ∷ 99 ∷ [])) 0 1 1036 (0 ∷ (7 ∷ (7 ∷ []))) ((5 ∷ 6 ∷ 7 ∷ []) ++ replicate 14 7) ∷
+    -- 12: DRS -200 is 200 dots per inch
+    record
+    { file = word 192 (65536 - 200) (oneLine 9 (8 ∷ []))
+    ; blocks = 2
+    ; kind = 2
+    ; size = 200
+    ; answer = 0
+    ; good = 1
+    ; end = 1034
+    ; marks = 0 ∷ (7 ∷ (7 ∷ []))
+    ; pixels = blank ++ replicate 9 7
+    } ∷
+    -- 13: 32 Environ-V entries fit two blocks and 33 do not
+    one (environ 2 32) 1 blank 1024 ∷
+    rejects (environ 2 33) 21 ∷
+    []
+
+pub all-hold : map computed cases ≡ cases
+unfolding cases computed rejects reads one oneGood blank lentPixels lentMarks environ u16At u32At scan words rejection isDataType slotOccurs sharesSlot runPixels runTotal pairPixels pairTotal runsFrom pairsFrom bodyRows bodyPixels bodyExtent headOf bodyOf reading isLost openLost start reached readingAt statuses rows good rasterRejection rasterReading pixelsAfter marksAfter
+all-hold = refl
