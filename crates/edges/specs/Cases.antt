@@ -41,31 +41,31 @@ pub computed : Case → Case
 computed c =
     let h = headerReading (c .file) in
     let r = rasterReading (c .file) lentPixels lentMarks in
-    record
-    { file = c .file
-    ; blocks = h .blocks
-    ; kind = h .resolution .kind
-    ; size = h .resolution .size
-    ; answer = r .answer
-    ; good = r .good
-    ; end = r .end
-    ; marks = marksAfter (c .file) lentPixels lentMarks
-    ; pixels = pixelsAfter (c .file) lentPixels lentMarks
+    record {
+      file = c .file;
+      blocks = h .blocks;
+      kind = h .resolution .kind;
+      size = h .resolution .size;
+      answer = r .answer;
+      good = r .good;
+      end = r .end;
+      marks = marksAfter (c .file) lentPixels lentMarks;
+      pixels = pixelsAfter (c .file) lentPixels lentMarks;
     }
 
 -- a rejected file: nothing but the number, and the buffers as they were
 rejects : List ℕ → ℕ → Case
 rejects f n =
-    record
-    { file = f
-    ; blocks = 0
-    ; kind = 0
-    ; size = 0
-    ; answer = n
-    ; good = 0
-    ; end = 0
-    ; marks = lentMarks
-    ; pixels = lentPixels
+    record {
+      file = f;
+      blocks = 0;
+      kind = 0;
+      size = 0;
+      answer = n;
+      good = 0;
+      end = 0;
+      marks = lentMarks;
+      pixels = lentPixels;
     }
 
 -- a file of two blocks and no resolution that is read: answer, good lines, end, marks and pixels, and what was there
@@ -112,16 +112,16 @@ cases =
     -- 10: type 2 with an odd P and a spare byte
     reads (header 2 2 3 1 1 ++ line 4 1 (5 ∷ 6 ∷ 7 ∷ 99 ∷ [])) 0 1 1036 (0 ∷ (7 ∷ (7 ∷ []))) ((5 ∷ 6 ∷ 7 ∷ []) ++ replicate 14 7) ∷
     -- 12: DRS -200 is 200 dots per inch
-    record
-    { file = word 192 (65536 - 200) (oneLine 9 (8 ∷ []))
-    ; blocks = 2
-    ; kind = 2
-    ; size = 200
-    ; answer = 0
-    ; good = 1
-    ; end = 1034
-    ; marks = 0 ∷ (7 ∷ (7 ∷ []))
-    ; pixels = blank ++ replicate 9 7
+    record {
+      file = word 192 (65536 - 200) (oneLine 9 (8 ∷ []));
+      blocks = 2;
+      kind = 2;
+      size = 200;
+      answer = 0;
+      good = 1;
+      end = 1034;
+      marks = 0 ∷ (7 ∷ (7 ∷ []));
+      pixels = blank ++ replicate 9 7;
     } ∷
     -- 13: 32 Environ-V entries fit two blocks and 33 do not
     one (environ 2 32) 1 blank 1024 ∷

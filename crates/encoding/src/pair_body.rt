@@ -7,7 +7,7 @@ ghost use Rattle.encoding.specs.Over.{over};
 ghost use Rattle.encoding.specs.Runs.{valuePieces};
 ghost use Rattle.encoding.specs.Bodies.{pairBody, wordsToBytes};
 use crate::measuring::run_end;
-use crate::storing::put_word;
+use crate::put_word;
 
 // Writes the runs of equal pixels of a row.
 pub fn write_pairs(row: &[u16], out: &mut [u8]) -> usize

@@ -7,7 +7,7 @@ ghost use Rattle.encoding.specs.Over.{over};
 ghost use Rattle.encoding.specs.Runs.{levelPieces};
 ghost use Rattle.encoding.specs.Bodies.{runBody, wordsToBytes};
 use crate::measuring::run_end;
-use crate::storing::put_word;
+use crate::put_word;
 
 // Writes the runs of a row of 0 and 1.
 pub fn write_runs(row: &[u16], out: &mut [u8]) -> usize

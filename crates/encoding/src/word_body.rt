@@ -3,8 +3,8 @@ ghost use mathlib.Core.Path.{_≡_};
 ghost use lib.ListN.{length};
 ghost use Rattle.encoding.specs.Over.{over};
 ghost use Rattle.encoding.specs.Bodies.{wordBody};
+use crate::put_word;
 use crate::storing::lesser;
-use crate::storing::put_word;
 
 // Writes each pixel, low byte first.
 pub fn write_words(row: &[u16], out: &mut [u8]) -> usize

@@ -1,8 +1,8 @@
 use mathlib.Core.Path.{refl, _∙_}
 use native.Mathlib.Numerals.{add-one}
 use borrow.Author.Needs.{needs}
-use Rattle.encoding.proofs.storing.put_word.Statement.{statement}
-use Rattle.encoding.proofs.storing.put_word.Tie as tie
+use Rattle.encoding.proofs.put_word.Statement.{statement}
+use Rattle.encoding.proofs.put_word.Tie as tie
 
 cast-put-byte : tie.Need-cast-put-byte
 cast-put-byte c = search needs
