@@ -1,16 +1,14 @@
 -- The chain of a file that is a header followed by the scanlines of a picture: each is reached where it was written, and is good.
 use Prim.Native.Nat.{ℕ, zero, suc, _+_, _*_, _≤_, _<_}
 use mathlib.Core.Path.{_≡_, refl, sym, _∙_, ap, subst}
-use mathlib.Core.Bool.{Bool, true, false, not, cond, _&&_}
+use mathlib.Core.Bool.{true, false}
 use mathlib.Core.Logic.{inl, inr}
-use mathlib.Core.List.{List, [], _∷_, _++_, append-nil, append-assoc}
+use mathlib.Core.List.{List, [], _++_, append-nil, append-assoc}
 use native.Mathlib.Nat.{suc-mul, zero-mul}
 use native.Mathlib.Numerals.{add-one}
 use native.Mathlib.Omega.{arith}
 use lib.ListN.{length, take, drop, replicate, length-append, replicate-append-replicate}
 use lib.Seq.{drop-at, take-add}
-use lib.Dec.{eqb}
-use borrow.Author.Tests.{eq-eqb}
 use Rattle.layout.specs.Scanline.{Line, Reading, lineOf}
 use Rattle.layout.specs.Chain.{scnOf, typeOf, pplOf, dataStart, lineAt, start, reached, readingAt, rows, statuses, good}
 use Rattle.encode.specs.Picture.{Picture, rowAt}

@@ -1,25 +1,20 @@
--- The header of a written file: its fields are those given, and no row of the table of rejections holds.
+-- The header of a written file: its fields are those given.
 use Prim.Native.Nat.{ℕ, _+_, _-_, _*_, _/_, _%_, _≤_, _<_}
-use mathlib.Core.Path.{_≡_, refl, sym, _∙_, ap, subst}
+use mathlib.Core.Path.{_≡_, refl}
 use mathlib.Core.Bool.{Bool, true, false, cond, _||_}
-use mathlib.Core.List.{List, [], _∷_, _++_, append-assoc}
+use mathlib.Core.List.{List, _++_}
 use native.Mathlib.Omega.{arith}
-use lib.ListN.{length, getD, take, length-append, List·getD-append}
-use lib.Seq.{getD-append-add}
-use lib.Dec.{eqb, ltb}
-use borrow.Author.Tests.{le-ltb, ne-eqb, eqb-true}
-use Rattle.units.specs.LittleEndian.{byteAt, u16At, u32At}
-use Rattle.units.specs.Rows.{first, first-later}
+use lib.ListN.{length, take}
+use lib.Dec.{eqb}
+use borrow.Author.Tests.{eqb-true}
+use Rattle.units.specs.LittleEndian.{u16At, u32At}
 use Rattle.header.specs.declared.fields.Fields.{Fields}
 use Rattle.header.specs.Fields.{fieldsOf}
-use Rattle.header.specs.Rejections.{isDataType, frameRows, fieldRows, tableRows, rejections, rejection}
-use Rattle.layout.specs.Chain.{dataStart}
-use Rattle.layout.specs.Reading.{bufferRows, rasterRejection}
+use Rattle.header.specs.Rejections.{isDataType}
 use Rattle.encode.specs.Picture.{Picture}
 use Rattle.encode.specs.Header.{headerBytes, tableArea}
 use Rattle.encode.specs.File.{linesOf, fileBytes}
 use Rattle.read_back.specs.Given.{Bytes, Given}
-use Rattle.read_back.specs.Chain.{Written}
 
 -- the file: the header up to the table area, that area, and the scanlines
 pub front : Picture → List ℕ
@@ -35,10 +30,10 @@ module _ (i : Picture) where
   length-front = refl
 
 -- the fields, for a picture without a table (true) or with one
-abbrev ctvIf : Bool → ℕ
+abbrev pub ctvIf : Bool → ℕ
 ctvIf none = cond none 0 1
 
-abbrev fieldsIf : Picture → Bool → Fields
+abbrev pub fieldsIf : Picture → Bool → Fields
 fieldsIf i none =
     record {
       htc = 0x0908;
@@ -76,7 +71,7 @@ type-low t h = go (eqb t 2) (eqb t 3) (eqb t 9) (eqb t 10) refl refl refl refl h
     go false false false true a b c d h = omega (arith, eqb-true t 10 d)
     go false false false false a b c d h = absurd (let z : _≡_ {A = ℕ} 0 1 = cc in omega arith)
 
-ctv-low : (none : Bool) → ctvIf none ≤ 1
+pub ctv-low : (none : Bool) → ctvIf none ≤ 1
 ctv-low true = omega arith
 ctv-low false = omega arith
 

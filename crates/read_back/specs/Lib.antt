@@ -4,3 +4,6 @@ pub mod Rows
 pub mod Line
 pub mod Chain
 pub mod Head
+pub mod Accepted
+pub mod Colors
+pub mod Law

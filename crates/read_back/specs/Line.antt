@@ -1,8 +1,8 @@
 -- One scanline as it is written, whatever follows it: its reading is good, and it uses its own bytes.
-use Prim.Native.Nat.{ℕ, suc, _+_, _-_, _*_, _/_, _%_, _≤_, _<_}
-use mathlib.Core.Path.{_≡_, refl, sym, _∙_, ap, ap₂}
+use Prim.Native.Nat.{ℕ, _+_, _-_, _%_, _≤_}
+use mathlib.Core.Path.{_≡_, refl, _∙_, ap, ap₂}
 use mathlib.Core.Bool.{Bool, true, false, cond}
-use mathlib.Core.List.{List, [], _∷_, _++_, append-assoc}
+use mathlib.Core.List.{List, _++_}
 use native.Mathlib.Omega.{arith}
 use lib.ListN.{length, take, drop, length-append}
 use lib.Seq.{take-at}
@@ -15,8 +15,8 @@ use Rattle.bodies.specs.Extents.{ExtentNumbers}
 use Rattle.bodies.specs.Statuses.{rowOf}
 use Rattle.encoding.specs.Bodies.{wordsToBytes}
 use Rattle.encoding.specs.RoundTrip.{ReadBack}
-use Rattle.layout.specs.Scanline.{bodyRows, bodyPixels, bodyExtent, headOf, bodyOf, following, fieldRows, reading, Reading, Line, isLost, openLost, headedLine, openLine, lineOf}
-use Rattle.layout.specs.LineLaws.{lostBy, lost-not, not-lost, NotLost, is-not-lost, open-not-lost, status-body, row-by-status, head-word}
+use Rattle.layout.specs.Scanline.{bodyRows, bodyPixels, bodyExtent, headOf, bodyOf, following, fieldRows, reading, Line, isLost, openLost, headedLine, openLine, lineOf}
+use Rattle.layout.specs.LineLaws.{lostBy, lost-not, not-lost, is-not-lost, open-not-lost, status-body, row-by-status, head-word}
 use Rattle.encode.specs.File.{bodyBytes, lineHeader, lineBytes}
 
 -- a good reading of a row, and as many bytes as were written
@@ -77,7 +77,10 @@ module _ (number : ℕ) (body rest : List ℕ) where
 
   fields-right : first (fieldRows number (headOf whole)) ≡ 0
   fields-right =
-      simp (eq-eqb (u16At (headOf whole) 4) number (head-word whole 4 (omega arith) ∙ line-number), eq-eqb (u16At (headOf whole) 6) 0 (head-word whole 6 (omega arith) ∙ offset))
+      simp (
+        eq-eqb (u16At (headOf whole) 4) number (head-word whole 4 (omega arith) ∙ line-number),
+        eq-eqb (u16At (headOf whole) 6) 0 (head-word whole 6 (omega arith) ∙ offset),
+      )
 
 headed : (t number : ℕ) (row rest : List ℕ) → ReadsAs t row
     → Back (headedLine t (length row) number (whole number (bodyBytes t 1 row) rest)) row
