@@ -2,3 +2,4 @@ pub mod Picture
 pub mod Header
 pub mod File
 pub mod Writing
+pub mod Job

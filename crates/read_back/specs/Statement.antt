@@ -16,17 +16,17 @@ use Rattle.encode.specs.File.{fileBytes}
 -- the header's fields are those given
 abbrev pub givenHeader : Picture → HeaderNumbers
 givenHeader i =
-    record
-    { number = 0
-    ; dataType = i .dtc
-    ; blocks = 2 + ctvOf (i .table)
-    ; ppl = i .ppl
-    ; nol = i .nol
-    ; resolution = resolutionOf (i .drs)
-    ; slo = i .slo
-    ; scn = i .scn
-    ; ctv = ctvOf (i .table)
-    ; cte = 0
+    record {
+      number = 0;
+      dataType = i .dtc;
+      blocks = 2 + ctvOf (i .table);
+      ppl = i .ppl;
+      nol = i .nol;
+      resolution = resolutionOf (i .drs);
+      slo = i .slo;
+      scn = i .scn;
+      ctv = ctvOf (i .table);
+      cte = 0;
     }
 
 -- the colors are those of the table, or grays without one
