@@ -1,0 +1,17 @@
+use borrow.Author.Tests.{lt-ltb, le-ltb, eq-eqb, ne-eqb, not-true, not-false}
+use Rattle.encode.proofs.limits.highest.Statement.{statement}
+use Rattle.encode.proofs.limits.highest.Tie as tie
+use Rattle.encode.proofs.limits.highest.Reads as reads
+use Rattle.encode.proofs.limits.highest.Lts as lts
+
+returns : tie.Need-returns
+returns c = simp (eq-eqb _ _ (c .if1 .taken))
+
+returns-2 : tie.Need-returns-2
+returns-2 c = simp (ne-eqb _ _ (c .before .if1 .left), eq-eqb _ _ (c .if2 .taken))
+
+returns-3 : tie.Need-returns-3
+returns-3 c = simp (ne-eqb _ _ (c .before .if1 .left), ne-eqb _ _ (c .if2 .left))
+
+pub highest-spec : {M : Type 1} → statement M
+highest-spec = tie.close (tie.spec returns returns-2 returns-3)
