@@ -1,13 +1,13 @@
 -- A picture whose fields are not rejected, and the rows that are left for its pixels and sizes.
 use Prim.Native.Nat.{ℕ, zero, suc, _+_, _*_, _/_, _≤_}
-use mathlib.Core.Path.{_≡_, refl, sym, _∙_, ap}
-use mathlib.Core.Bool.{Bool, true, false, cond, not, _&&_, _||_, false≢true}
+use mathlib.Core.Path.{_≡_, refl, _∙_, ap}
+use mathlib.Core.Bool.{Bool, true, false, cond, _&&_, _||_, false≢true}
 use mathlib.Core.List.{List, [], _∷_, _++_}
 use native.Mathlib.Omega.{arith}
 use lib.ListN.{length, take, length-append}
 use lib.Dec.{eqb, ltb}
 use borrow.Author.Tests.{eqb-true, ltb-false, not-false}
-use Rattle.units.specs.Rows.{Row, row, first, none-holds}
+use Rattle.units.specs.Rows.{row, first, none-holds}
 use Rattle.header.specs.Rejections.{isDataType}
 use Rattle.encode.specs.declared.Job.{Job}
 use Rattle.encode.specs.Picture.{Picture, rowAt}
@@ -58,6 +58,7 @@ length-header i known = before ∙ area (eqb (length (i .table)) 0) (eqb (length
   where
     before : length (headerBytes i) ≡ 768 + length (tableArea (i .table))
     before = omega arith
+
     area : (a b : Bool) → eqb (length (i .table)) 768 ≡ b → (a || b) ≡ true
         → 768 + length (cond a (tableArea []) (i .table)) ≡ cond a 1024 1536
     area true b e k = refl

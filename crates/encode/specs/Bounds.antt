@@ -1,12 +1,12 @@
 -- How long bodies, scanlines and headers are.
-use Prim.Native.Nat.{ℕ, zero, suc, _+_, _*_, _%_, _≤_, _<_}
-use mathlib.Core.Path.{_≡_, refl, sym, _∙_, ap}
+use Prim.Native.Nat.{ℕ, zero, suc, _+_, _*_, _%_, _≤_}
+use mathlib.Core.Path.{_≡_, _∙_, ap}
 use mathlib.Core.Bool.{Bool, true, false, cond, _&&_}
 use mathlib.Core.List.{List, [], _∷_, _++_}
 use native.Mathlib.Omega.{arith}
-use lib.ListN.{length, take, drop, length-append, length-take}
+use lib.ListN.{length, drop, length-append, length-take}
 use lib.Dec.{eqb}
-use Rattle.encoding.specs.Bodies.{wordsToBytes, byteBody, wordBody, runBody, pairBody}
+use Rattle.encoding.specs.Bodies.{byteBody, wordBody, runBody, pairBody}
 use Rattle.encoding.specs.Runs.{runWords, pairWords}
 use Rattle.encoding.specs.WordLaws.{length-bytes}
 use Rattle.encoding.specs.ByteLaws.{lowBytes, length-low, length-spare}

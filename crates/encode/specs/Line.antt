@@ -1,18 +1,17 @@
 -- One scanline put at the start of an output.
 use Prim.Native.Nat.{ℕ, _+_, _-_, _/_, _≤_}
-use mathlib.Core.Path.{_≡_, refl, sym, _∙_, ap}
+use mathlib.Core.Path.{_≡_, sym, _∙_, ap}
 use mathlib.Core.List.{List, [], _∷_, _++_, append-assoc}
 use native.Mathlib.Omega.{arith}
 use lib.ListN.{length, take, drop, length-append, length-drop}
 use lib.Seq.{sets, length-take-le, drop-at, drop-drop}
-use lib.Dec.{eqb}
 use borrow.Author.Tests.{eq-eqb, ne-eqb}
 use borrow.Rule.Slice.PartMut.{midOf, putMid}
 use Rattle.encoding.specs.Bodies.{wordsToBytes}
 use Rattle.encoding.specs.Over.{over}
 use Rattle.encoding.specs.OverLaws.{sets-over, over-fits}
 use Rattle.encode.specs.File.{bodyBytes, lineHeader, lineBytes}
-use Rattle.encode.specs.Answer.{headSize, LineFits}
+use Rattle.encode.specs.Answer.{LineFits}
 use Rattle.encode.specs.Bounds.{length-line}
 use Rattle.encode.specs.Parts.{tail-is, put-tail}
 
@@ -73,9 +72,9 @@ module _ (t scn number : ℕ) (row out : List ℕ) (fits : LineFits t scn number
         ap (λ (x : List ℕ). drop 8 x) (put-tail 8 out part) ∙ drop-at (take 8 out) part 8 (length-take-le 8 out (omega arith)) in (
           len,
           p
-          ∙ ap (λ (n : ℕ). wordsToBytes (headerWords (n / 2 + 2) number) ++ drop 8 (putMid 8 (length out - 8) out part)) (e .0)
-          ∙ ap (λ (x : List ℕ). lineHeader number body ++ x) (behind ∙ put)
-          ∙ sym (append-assoc (lineHeader number body) body (drop (8 + length body) out))
-          ∙ ap (λ (x : List ℕ). x ++ drop (8 + length body) out) (sym (headed-is t scn number row one))
-          ∙ ap (λ (n : ℕ). lineBytes t scn number row ++ drop n out) (sym (headed-length t scn number row one)),
+              ∙ ap (λ (n : ℕ). wordsToBytes (headerWords (n / 2 + 2) number) ++ drop 8 (putMid 8 (length out - 8) out part)) (e .0)
+              ∙ ap (λ (x : List ℕ). lineHeader number body ++ x) (behind ∙ put)
+              ∙ sym (append-assoc (lineHeader number body) body (drop (8 + length body) out))
+              ∙ ap (λ (x : List ℕ). x ++ drop (8 + length body) out) (sym (headed-is t scn number row one))
+              ∙ ap (λ (n : ℕ). lineBytes t scn number row ++ drop n out) (sym (headed-length t scn number row one)),
         )

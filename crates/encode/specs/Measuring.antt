@@ -1,5 +1,5 @@
 -- The loop that measures the scanlines: what holds before scanline k, from turn to turn and at its end.
-use Prim.Native.Nat.{ℕ, zero, suc, _+_, _-_, _*_, _/_, _^_, _≤_, _<_, zero-le}
+use Prim.Native.Nat.{ℕ, _+_, _-_, _*_, _/_, _^_, _≤_, _<_, zero-le}
 use mathlib.Core.Path.{_≡_, refl, sym, _∙_, ap, subst⁻¹}
 use mathlib.Core.Bool.{Bool, false, _||_}
 use mathlib.Core.List.{List}
@@ -7,7 +7,6 @@ use native.Mathlib.Numerals.{add-one}
 use native.Mathlib.Omega.{arith}
 use lib.ListN.{length, take, drop}
 use lib.Dec.{ltb}
-use Rattle.encode.specs.declared.Measure.{Measure}
 use Rattle.encode.specs.Picture.{Picture, rowAt}
 use Rattle.encode.specs.File.{bodyBytes, linesOf}
 use Rattle.encode.specs.Writing.{anyLong}

@@ -1,12 +1,12 @@
 -- The part of a buffer from a place on, lent and come back.
 use Prim.Native.Nat.{ℕ, suc, _+_, _-_, _*_, _≤_, _<_}
-use mathlib.Core.Path.{_≡_, refl, sym, _∙_, ap}
+use mathlib.Core.Path.{_≡_, sym, _∙_, ap}
 use mathlib.Core.List.{List, [], _++_, append-assoc, append-nil}
 use native.Mathlib.Nat.{suc-mul, mul-le-mul-right}
 use native.Mathlib.Omega.{arith}
 use lib.ListN.{length, take, drop, length-drop, drop-of-length-le}
 use lib.Seq.{take-all, take-at, drop-at, drop-drop}
-use borrow.Rule.Slice.PartMut.{midOf, putMid, postOf}
+use borrow.Rule.Slice.PartMut.{midOf, putMid}
 
 pub tail-is : (at : ℕ) (out : List ℕ) → midOf at (length out - at) out ≡ drop at out
 tail-is at out = take-all (length out - at) (drop at out) (omega (arith, length-drop at out))
@@ -26,7 +26,7 @@ put-next done new old out part at l e p =
     put-tail at out part
     ∙ ap (λ (x : List ℕ). x ++ part) t
     ∙ ap (λ (x : List ℕ). done ++ x)
-      (p ∙ ap (λ (x : List ℕ). new ++ drop (length new) x) (tail-is at out ∙ d) ∙ ap (λ (x : List ℕ). new ++ x) (drop-drop (length new) at old))
+    (p ∙ ap (λ (x : List ℕ). new ++ drop (length new) x) (tail-is at out ∙ d) ∙ ap (λ (x : List ℕ). new ++ x) (drop-drop (length new) at old))
     ∙ sym (append-assoc done new (drop (at + length new) old))
 
 -- row k lies within the pixels of all rows

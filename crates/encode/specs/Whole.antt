@@ -1,7 +1,7 @@
 -- The whole call: what a rejected one answers and leaves, and what one that is not has room for, answers and leaves.
-use Prim.Native.Nat.{ℕ, _+_, _-_, _*_, _≤_}
-use mathlib.Core.Path.{_≡_, refl, sym, _∙_, ap}
-use mathlib.Core.Bool.{Bool, true, false, cond, _&&_}
+use Prim.Native.Nat.{ℕ, _+_, _-_, _≤_}
+use mathlib.Core.Path.{_≡_, sym, _∙_, ap}
+use mathlib.Core.Bool.{Bool, true, false, cond}
 use mathlib.Core.List.{List, _++_}
 use native.Mathlib.Omega.{arith}
 use lib.ListN.{length, drop, length-append, length-drop}
@@ -14,9 +14,9 @@ use Rattle.encode.specs.declared.WriteAnswer.{WriteAnswer}
 use Rattle.encode.specs.Picture.{Picture}
 use Rattle.encode.specs.Header.{headerBytes}
 use Rattle.encode.specs.File.{linesOf, fileBytes}
-use Rattle.encode.specs.Writing.{WriteNumbers, fieldRows, pictureRows, writerRejection, writing, outAfter}
+use Rattle.encode.specs.Writing.{fieldRows, pictureRows, writerRejection, writing, outAfter}
 use Rattle.encode.specs.Job.{jobPicture, pictureOf, headerOver}
-use Rattle.encode.specs.Answer.{writeNumbers, limitRows, bare, tableSize, planRows, planSize, Within, LinesFit}
+use Rattle.encode.specs.Answer.{writeNumbers, limitRows, bare, tableSize, planRows, Within, LinesFit}
 use Rattle.encode.specs.Parts.{tail-is, put-next}
 use Rattle.encode.specs.Plan.{Planned}
 use Rattle.encode.specs.Accepting.{Limits, limits, lines-bare, header-size, file-size, rows-bare}
@@ -131,4 +131,4 @@ module _ (j : Job) (table pixels out : List ℕ) {n : ℕ}
               (putMid start (length now - start) now part)
               (put-file (headerBytes (pictureOf j table)) (linesOf (bare j pixels) (j .nol)) out now part start placed header-put p
               ∙ ap (λ (l : List ℕ). (headerBytes (pictureOf j table) ++ l) ++ drop (length (headerBytes (pictureOf j table) ++ l)) out)
-                (sym (lines-bare j table pixels (j .nol))))
+              (sym (lines-bare j table pixels (j .nol))))

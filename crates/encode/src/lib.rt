@@ -47,7 +47,17 @@ pub struct Measure {
 }
 
 // Writes a file: the fields by the format's names, a color table of 0 or 768 bytes, and the pixels row after row.
-pub fn write_raster(dtc: u32, ppl: u32, nol: u32, slo: u32, scn: u32, drs: u16, table: &[u8], pixels: &[u16], out: &mut [u8]) -> WriteAnswer
+pub fn write_raster(
+    dtc: u32,
+    ppl: u32,
+    nol: u32,
+    slo: u32,
+    scn: u32,
+    drs: u16,
+    table: &[u8],
+    pixels: &[u16],
+    out: &mut [u8],
+) -> WriteAnswer
     ensures { λ r. ⌜ writeNumbers r ≡ writing (picture dtc ppl nol slo scn drs (now (table .entry)) (now (pixels .entry))) (length (now (out .entry))) ⌝ }
     ensures { λ r. ⌜ now (out .exit) ≡ outAfter (picture dtc ppl nol slo scn drs (now (table .entry)) (now (pixels .entry))) (now (out .entry)) ⌝ }
 {
@@ -111,10 +121,7 @@ fn uncounted(scn: u8, long: bool) -> bool
 fn rejected(number: u16) -> WriteAnswer
     ensures { λ r. ⌜ r ≡ record { number = number; size = 0 } ⌝ }
 {
-    WriteAnswer {
-        number,
-        size: 0,
-    }
+    WriteAnswer { number, size: 0 }
 }
 
 // The length of a header with a table of this many bytes.

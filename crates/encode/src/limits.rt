@@ -9,7 +9,15 @@ ghost use Rattle.encode.specs.Writing as writing;
 ghost use Rattle.encode.specs.Answer.{limitRows};
 
 // 16 to 23, or 0, for a table and pixels of these lengths.
-pub fn field_rejection(dtc: u32, ppl: u32, nol: u32, slo: u32, scn: u32, table: usize, pixels: usize) -> u16
+pub fn field_rejection(
+    dtc: u32,
+    ppl: u32,
+    nol: u32,
+    slo: u32,
+    scn: u32,
+    table: usize,
+    pixels: usize,
+) -> u16
     ensures { λ r. ⌜ r ≡ first (limitRows dtc ppl nol slo scn table pixels) ⌝ }
 {
     if !is_data_type(dtc) {

@@ -1,8 +1,6 @@
-use borrow.Author.Tests.{lt-ltb, le-ltb, eq-eqb, ne-eqb, not-true, not-false}
+use borrow.Author.Tests.{eq-eqb, ne-eqb}
 use Rattle.encode.proofs.line_head.Statement.{statement}
 use Rattle.encode.proofs.line_head.Tie as tie
-use Rattle.encode.proofs.line_head.Reads as reads
-use Rattle.encode.proofs.line_head.Lts as lts
 
 returns : tie.Need-returns
 returns c = simp (eq-eqb _ _ (c .if1 .taken))

@@ -1,19 +1,12 @@
-use Rattle.encode.specs.Measuring.{MeasuredAt, measure-first, measure-next, measure-fits, measure-done}
-use Rattle.encode.specs.Parts.{row-within}
-use Rattle.encode.specs.Measuring.{MeasuredAt, measure-first, measure-next, measure-done}
-use Rattle.encode.specs.Answer.{bare}
-use lib.ListN.{length, drop, take}
+use lib.ListN.{length}
 use native.Mathlib.Omega.{arith}
 use borrow.Author.Needs.{needs}
-use Prim.Native.Nat.{ℕ, _+_, _-_, _*_, _≤_, _<_}
-use mathlib.Core.Path.{_≡_, refl, sym, _∙_, ap}
+use Prim.Native.Nat.{_+_, _-_, _*_, _≤_}
+use Rattle.encode.specs.Measuring.{MeasuredAt, measure-first, measure-next, measure-fits, measure-done}
+use Rattle.encode.specs.Parts.{row-within}
+use Rattle.encode.specs.Answer.{bare}
 use Rattle.encode.proofs.measure_lines.Statement.{statement}
 use Rattle.encode.proofs.measure_lines.Tie as tie
-use Rattle.encode.proofs.measure_lines.Reads as reads
-use Rattle.encode.proofs.measure_lines.Lts as lts
-use Rattle.encode.proofs.body.body_size.Reads as body-size-reads
-use Rattle.encode.proofs.line_head.Reads as line-head-reads
-use Rattle.encode.proofs.or_long.Reads as or-long-reads
 
 abbrev Inv-loop : tie.InvT-loop
 Inv-loop job pixels p n head size₀ long₀ k₀ size long k = MeasuredAt (bare job pixels) size long k
@@ -31,10 +24,12 @@ line-head-requires : tie.Need-line-head-requires Inv-loop μ-loop
 line-head-requires c κs = search needs
 
 loop-holds : tie.Need-loop-holds Inv-loop μ-loop
-loop-holds c = measure-first (bare (c .before .before .before .before .args .job) (c .before .before .before .before .args .pixels .now))
+loop-holds c =
+    let s = c .before .before .before .before in
+    measure-first (bare (s .args .job) (s .args .pixels .now))
 
 mul-from : tie.Need-mul-from Inv-loop μ-loop
-mul-from c = 
+mul-from c =
     let s = c .before .before .before .before .before .before in
     let l = c .before .loop in
     let i = bare (s .args .job) (s .args .pixels .now) in
@@ -44,7 +39,7 @@ mul-from c =
     omega (arith, g)
 
 add-to : tie.Need-add-to Inv-loop μ-loop
-add-to c = 
+add-to c =
     let s = c .before .before .before .before .before .before in
     let l = c .before .loop in
     let i = bare (s .args .job) (s .args .pixels .now) in
@@ -54,7 +49,7 @@ add-to c =
     omega (arith, g)
 
 mul-body-size : tie.Need-mul-body-size Inv-loop μ-loop
-mul-body-size c = 
+mul-body-size c =
     let s = c .before .before .before .before .before .before in
     let l = c .before .loop in
     let i = bare (s .args .job) (s .args .pixels .now) in
@@ -64,7 +59,7 @@ mul-body-size c =
     omega (arith, g, s .good)
 
 sub-body-size : tie.Need-sub-body-size Inv-loop μ-loop
-sub-body-size c = 
+sub-body-size c =
     let s = c .before .before .before .before .before .before in
     let l = c .before .loop in
     let i = bare (s .args .job) (s .args .pixels .now) in
@@ -74,7 +69,7 @@ sub-body-size c =
     omega (arith, g)
 
 part-body-size-start : tie.Need-part-body-size-start Inv-loop μ-loop
-part-body-size-start c = 
+part-body-size-start c =
     let s = c .before .before .before .before .before .before in
     let l = c .before .loop in
     let i = bare (s .args .job) (s .args .pixels .now) in
@@ -84,7 +79,7 @@ part-body-size-start c =
     omega (arith, g)
 
 part-body-size-end : tie.Need-part-body-size-end Inv-loop μ-loop
-part-body-size-end c = 
+part-body-size-end c =
     let s = c .before .before .before .before .before .before in
     let l = c .before .loop in
     let i = bare (s .args .job) (s .args .pixels .now) in
@@ -97,13 +92,13 @@ body-size-requires : tie.Need-body-size-requires Inv-loop μ-loop
 body-size-requires c κs = search needs
 
 add-size : tie.Need-add-size Inv-loop μ-loop
-add-size c = 
+add-size c =
     let s = c .before .before .before .before .before .before .before .before in
     let l = c .before .before .before .loop in
     omega (arith, measure-fits (bare (s .args .job) (s .args .pixels .now)) (l .size) (l .long) (l .k) (l .inv) (c .before .before .loop-test .taken) (s .pre .ppl-most) (s .pre .nol-most) (c .before .before .before .before .line-head .result) (c .body-size .result) (c .before .before .before .before .line-head .ensures) (c .body-size .ensures))
 
 add-size-2 : tie.Need-add-size-2 Inv-loop μ-loop
-add-size-2 c = 
+add-size-2 c =
     let s = c .before .before .before .before .before .before .before .before in
     let l = c .before .before .before .loop in
     omega (arith, measure-fits (bare (s .args .job) (s .args .pixels .now)) (l .size) (l .long) (l .k) (l .inv) (c .before .before .loop-test .taken) (s .pre .ppl-most) (s .pre .nol-most) (c .before .before .before .before .line-head .result) (c .body-size .result) (c .before .before .before .before .line-head .ensures) (c .body-size .ensures))
@@ -118,13 +113,13 @@ loop-less : tie.Need-loop-less Inv-loop μ-loop
 loop-less c = search needs
 
 loop-again : tie.Need-loop-again Inv-loop μ-loop
-loop-again c = 
+loop-again c =
     let s = c .before .before .before .before .before .before .before .before .before in
     let l = c .before .before .before .before .loop in
     measure-next (bare (s .args .job) (s .args .pixels .now)) (l .size) (l .long) (l .k) (l .inv) (c .before .before .before .loop-test .taken) (c .before .before .before .before .before .line-head .result) (c .before .body-size .result) (c .or-long .result) (c .before .before .before .before .before .line-head .ensures) (c .before .body-size .ensures) (c .or-long .ensures)
 
 returns : tie.Need-returns Inv-loop μ-loop
-returns c = 
+returns c =
     let s = c .before .before .before .before .before .before in
     let l = c .before .loop in
     measure-done (bare (s .args .job) (s .args .pixels .now)) (s .args .job .nol) (l .size) (l .long) (l .k) (l .inv) (omega (arith, l .inv .low, c .loop-test .left))

@@ -1,8 +1,6 @@
 use borrow.Author.Needs.{needs}
 use Rattle.encode.proofs.or_long.Statement.{statement}
 use Rattle.encode.proofs.or_long.Tie as tie
-use Rattle.encode.proofs.or_long.Reads as reads
-use Rattle.encode.proofs.or_long.Lts as lts
 
 returns : tie.Need-returns
 returns c = search needs

@@ -1,20 +1,10 @@
+use native.Mathlib.Omega.{arith}
+use borrow.Author.Needs.{needs}
 use Rattle.encode.specs.Bounds.{lines-most}
 use Rattle.encode.specs.Answer.{bare}
 use Rattle.encode.specs.Plan.{plan-26, plan-27, plan-10, plan-28, plan-none}
-use lib.ListN.{length, drop, take}
-use native.Mathlib.Omega.{arith}
-use Prim.Native.Nat.{ℕ, _+_, _-_, _*_, _≤_, _<_}
-use mathlib.Core.Path.{_≡_, refl, sym, _∙_, ap}
-use borrow.Author.Needs.{needs}
 use Rattle.encode.proofs.plan_file.Statement.{statement}
 use Rattle.encode.proofs.plan_file.Tie as tie
-use Rattle.encode.proofs.plan_file.Reads as reads
-use Rattle.encode.proofs.plan_file.Lts as lts
-use Rattle.encode.proofs.limits.any_above.Reads as any-above-reads
-use Rattle.encode.proofs.limits.highest.Reads as highest-reads
-use Rattle.encode.proofs.measure_lines.Reads as measure-lines-reads
-use Rattle.encode.proofs.rejected.Reads as rejected-reads
-use Rattle.encode.proofs.uncounted.Reads as uncounted-reads
 
 cast-end : tie.Need-cast-end
 cast-end c = search needs
@@ -44,7 +34,9 @@ rejected-requires : tie.Need-rejected-requires
 rejected-requires c κs = search needs
 
 returns : tie.Need-returns
-returns c = plan-26 (c .before .before .before .before .before .before .before .before .args .job) (c .before .before .before .before .before .before .before .before .args .pixels .now) (c .before .before .before .before .before .before .before .before .args .head) (c .before .before .before .before .before .before .before .before .args .room) (c .before .before .before .highest .ensures) (c .before .before .any-above .ensures) (c .rejected .ensures) (c .before .if1 .taken)
+returns c =
+    let s = c .before .before .before .before .before .before .before .before in
+    plan-26 (s .args .job) (s .args .pixels .now) (s .args .head) (s .args .room) (c .before .before .before .highest .ensures) (c .before .before .any-above .ensures) (c .rejected .ensures) (c .before .if1 .taken)
 
 measure-lines-requires : tie.Need-measure-lines-requires
 measure-lines-requires c κs = search needs
@@ -56,25 +48,35 @@ rejected-requires-2 : tie.Need-rejected-requires-2
 rejected-requires-2 c κs = search needs
 
 returns-2 : tie.Need-returns-2
-returns-2 c = plan-27 (c .before .before .before .before .before .before .before .before .before .before .before .args .job) (c .before .before .before .before .before .before .before .before .before .before .before .args .pixels .now) (c .before .before .before .before .before .before .before .before .before .before .before .args .head) (c .before .before .before .before .before .before .before .before .before .before .before .args .room) (c .before .before .before .before .before .before .highest .ensures) (c .before .before .before .before .before .any-above .ensures) (c .before .before .before .before .if1 .left) (c .before .before .before .measure-lines .ensures) (c .before .before .uncounted .ensures) (c .rejected2 .ensures) (c .before .if2 .taken)
+returns-2 c =
+    let s = c .before .before .before .before .before .before .before .before .before .before .before in
+    plan-27 (s .args .job) (s .args .pixels .now) (s .args .head) (s .args .room) (c .before .before .before .before .before .before .highest .ensures) (c .before .before .before .before .before .any-above .ensures) (c .before .before .before .before .if1 .left) (c .before .before .before .measure-lines .ensures) (c .before .before .uncounted .ensures) (c .rejected2 .ensures) (c .before .if2 .taken)
 
 add-size : tie.Need-add-size
-add-size c = omega (arith, c .before .before .before .measure-lines .ensures .size, lines-most (bare (c .before .before .before .before .before .before .before .before .before .before .before .args .job) (c .before .before .before .before .before .before .before .before .before .before .before .args .pixels .now)) (c .before .before .before .before .before .before .before .before .before .before .before .pre .0 .ppl-most) (c .before .before .before .before .before .before .before .before .before .before .before .args .job .nol), c .before .before .before .before .before .before .before .before .before .before .before .pre .0 .nol-most, c .before .before .before .before .before .before .before .before .before .before .before .pre .1)
+add-size c =
+    let s = c .before .before .before .before .before .before .before .before .before .before .before in
+    omega (arith, c .before .before .before .measure-lines .ensures .size, lines-most (bare (s .args .job) (s .args .pixels .now)) (s .pre .0 .ppl-most) (s .args .job .nol), s .pre .0 .nol-most, s .pre .1)
 
 rejected-requires-3 : tie.Need-rejected-requires-3
 rejected-requires-3 c κs = search needs
 
 returns-3 : tie.Need-returns-3
-returns-3 c = plan-10 (c .before .before .before .before .before .before .before .before .before .before .before .before .before .args .job) (c .before .before .before .before .before .before .before .before .before .before .before .before .before .args .pixels .now) (c .before .before .before .before .before .before .before .before .before .before .before .before .before .args .head) (c .before .before .before .before .before .before .before .before .before .before .before .before .before .args .room) (c .before .before .before .before .before .before .before .before .highest .ensures) (c .before .before .before .before .before .before .before .any-above .ensures) (c .before .before .before .before .before .before .if1 .left) (c .before .before .before .before .before .measure-lines .ensures) (c .before .before .before .before .uncounted .ensures) (c .before .before .before .if2 .left) (c .rejected3 .ensures) (c .before .if3 .taken)
+returns-3 c =
+    let s = c .before .before .before .before .before .before .before .before .before .before .before .before .before in
+    plan-10 (s .args .job) (s .args .pixels .now) (s .args .head) (s .args .room) (c .before .before .before .before .before .before .before .before .highest .ensures) (c .before .before .before .before .before .before .before .any-above .ensures) (c .before .before .before .before .before .before .if1 .left) (c .before .before .before .before .before .measure-lines .ensures) (c .before .before .before .before .uncounted .ensures) (c .before .before .before .if2 .left) (c .rejected3 .ensures) (c .before .if3 .taken)
 
 rejected-requires-4 : tie.Need-rejected-requires-4
 rejected-requires-4 c κs = search needs
 
 returns-4 : tie.Need-returns-4
-returns-4 c = plan-28 (c .before .before .before .before .before .before .before .before .before .before .before .before .before .before .args .job) (c .before .before .before .before .before .before .before .before .before .before .before .before .before .before .args .pixels .now) (c .before .before .before .before .before .before .before .before .before .before .before .before .before .before .args .head) (c .before .before .before .before .before .before .before .before .before .before .before .before .before .before .args .room) (c .before .before .before .before .before .before .before .before .before .highest .ensures) (c .before .before .before .before .before .before .before .before .any-above .ensures) (c .before .before .before .before .before .before .before .if1 .left) (c .before .before .before .before .before .before .measure-lines .ensures) (c .before .before .before .before .before .uncounted .ensures) (c .before .before .before .before .if2 .left) (c .rejected4 .ensures) (c .before .before .if3 .left) (c .before .if4 .taken)
+returns-4 c =
+    let s = c .before .before .before .before .before .before .before .before .before .before .before .before .before .before in
+    plan-28 (s .args .job) (s .args .pixels .now) (s .args .head) (s .args .room) (c .before .before .before .before .before .before .before .before .before .highest .ensures) (c .before .before .before .before .before .before .before .before .any-above .ensures) (c .before .before .before .before .before .before .before .if1 .left) (c .before .before .before .before .before .before .measure-lines .ensures) (c .before .before .before .before .before .uncounted .ensures) (c .before .before .before .before .if2 .left) (c .rejected4 .ensures) (c .before .before .if3 .left) (c .before .if4 .taken)
 
 returns-5 : tie.Need-returns-5
-returns-5 c = plan-none (c .before .before .before .before .before .before .before .before .before .before .before .before .before .args .job) (c .before .before .before .before .before .before .before .before .before .before .before .before .before .args .pixels .now) (c .before .before .before .before .before .before .before .before .before .before .before .before .before .args .head) (c .before .before .before .before .before .before .before .before .before .before .before .before .before .args .room) (c .before .before .before .before .before .before .before .before .highest .ensures) (c .before .before .before .before .before .before .before .any-above .ensures) (c .before .before .before .before .before .before .if1 .left) (c .before .before .before .before .before .measure-lines .ensures) (c .before .before .before .before .uncounted .ensures) (c .before .before .before .if2 .left) (c .before .if3 .left) (c .if4 .left)
+returns-5 c =
+    let s = c .before .before .before .before .before .before .before .before .before .before .before .before .before in
+    plan-none (s .args .job) (s .args .pixels .now) (s .args .head) (s .args .room) (c .before .before .before .before .before .before .before .before .highest .ensures) (c .before .before .before .before .before .before .before .any-above .ensures) (c .before .before .before .before .before .before .if1 .left) (c .before .before .before .before .before .measure-lines .ensures) (c .before .before .before .before .uncounted .ensures) (c .before .before .before .if2 .left) (c .before .if3 .left) (c .if4 .left)
 
 pub plan-file-spec : {M : Type 1} → statement M
 plan-file-spec =

@@ -1,12 +1,10 @@
-use Rattle.encode.specs.Line.{header-put}
-use Rattle.encoding.specs.Bodies.{wordsToBytes}
 use native.Mathlib.Omega.{arith}
 use lib.ListN.{length-set}
 use borrow.Author.Needs.{needs}
+use Rattle.encode.specs.Line.{header-put}
+use Rattle.encoding.specs.Bodies.{wordsToBytes}
 use Rattle.encode.proofs.put_line_header.Statement.{statement}
 use Rattle.encode.proofs.put_line_header.Tie as tie
-use Rattle.encode.proofs.put_line_header.Reads as reads
-use Rattle.encode.proofs.put_line_header.Lts as lts
 
 slice-write-out : tie.Need-slice-write-out
 slice-write-out c = search needs

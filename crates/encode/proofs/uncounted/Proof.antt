@@ -1,8 +1,6 @@
 use borrow.Author.Tests.{eq-eqb, ne-eqb}
 use Rattle.encode.proofs.uncounted.Statement.{statement}
 use Rattle.encode.proofs.uncounted.Tie as tie
-use Rattle.encode.proofs.uncounted.Reads as reads
-use Rattle.encode.proofs.uncounted.Lts as lts
 
 returns : tie.Need-returns
 returns c = simp (eq-eqb _ _ (c .if1 .taken))

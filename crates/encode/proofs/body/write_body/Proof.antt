@@ -1,14 +1,8 @@
-use Rattle.encode.specs.File.{bodyBytes}
-use borrow.Author.Tests.{lt-ltb, le-ltb, eq-eqb, ne-eqb, not-true, not-false}
+use borrow.Author.Tests.{eq-eqb, ne-eqb}
 use borrow.Author.Needs.{needs}
+use Rattle.encode.specs.File.{bodyBytes}
 use Rattle.encode.proofs.body.write_body.Statement.{statement}
 use Rattle.encode.proofs.body.write_body.Tie as tie
-use Rattle.encode.proofs.body.write_body.Reads as reads
-use Rattle.encode.proofs.body.write_body.Lts as lts
-use Rattle.encoding.proofs.write_bytes.Reads as write-bytes-reads
-use Rattle.encoding.proofs.write_pairs.Reads as write-pairs-reads
-use Rattle.encoding.proofs.write_runs.Reads as write-runs-reads
-use Rattle.encoding.proofs.write_words.Reads as write-words-reads
 
 write-bytes-requires : tie.Need-write-bytes-requires
 write-bytes-requires c κs = search needs

@@ -1,17 +1,13 @@
-use Rattle.encode.specs.Limits.{above-next, above-end}
-use Rattle.encode.specs.Writing.{anyAbove}
-use lib.Dec.{ltb}
 use native.Mathlib.Omega.{arith}
 use borrow.Author.Needs.{needs}
 use Prim.Native.Nat.{_+_, _-_}
-use lib.ListN.{length, getD, drop}
+use lib.ListN.{length, drop}
 use mathlib.Core.Bool.{Bool, _||_}
 use mathlib.Core.Path.{_≡_, refl, sym, _∙_, ap}
+use Rattle.encode.specs.Limits.{above-next, above-end}
+use Rattle.encode.specs.Writing.{anyAbove}
 use Rattle.encode.proofs.limits.any_above.Statement.{statement}
 use Rattle.encode.proofs.limits.any_above.Tie as tie
-use Rattle.encode.proofs.limits.any_above.Reads as reads
-use Rattle.encode.proofs.limits.any_above.Lts as lts
-use Rattle.encode.proofs.limits.or_above.Reads as or-above-reads
 
 abbrev Inv-loop : tie.InvT-loop
 Inv-loop pixels m found₀ i₀ found i = (found || anyAbove m (drop i pixels)) ≡ anyAbove m pixels
@@ -38,7 +34,7 @@ loop-less : tie.Need-loop-less Inv-loop μ-loop
 loop-less c = search needs
 
 loop-again : tie.Need-loop-again Inv-loop μ-loop
-loop-again c = 
+loop-again c =
     let l = c .before .before .before .loop in
     let a = c .before .before .before .before .before .args in
     ap (λ (t : Bool). t || anyAbove (a .m) (drop (l .i + 1) (a .pixels .now))) (c .or-above .ensures)
@@ -46,7 +42,7 @@ loop-again c =
     ∙ l .inv
 
 returns : tie.Need-returns Inv-loop μ-loop
-returns c = 
+returns c =
     let l = c .before .loop in
     let a = c .before .before .before .args in
     sym (above-end (a .m) (a .pixels .now) (l .i) (l .found) (c .loop-test .left)) ∙ l .inv

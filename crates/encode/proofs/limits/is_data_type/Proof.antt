@@ -1,9 +1,7 @@
+use borrow.Author.Tests.{eq-eqb, ne-eqb}
 use Rattle.header.specs.Rejections.{isDataType}
-use borrow.Author.Tests.{lt-ltb, le-ltb, eq-eqb, ne-eqb, not-true, not-false}
 use Rattle.encode.proofs.limits.is_data_type.Statement.{statement}
 use Rattle.encode.proofs.limits.is_data_type.Tie as tie
-use Rattle.encode.proofs.limits.is_data_type.Reads as reads
-use Rattle.encode.proofs.limits.is_data_type.Lts as lts
 
 returns : tie.Need-returns
 unfolding isDataType

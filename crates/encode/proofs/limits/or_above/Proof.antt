@@ -1,8 +1,6 @@
 use borrow.Author.Needs.{needs}
 use Rattle.encode.proofs.limits.or_above.Statement.{statement}
 use Rattle.encode.proofs.limits.or_above.Tie as tie
-use Rattle.encode.proofs.limits.or_above.Reads as reads
-use Rattle.encode.proofs.limits.or_above.Lts as lts
 
 returns : tie.Need-returns
 returns c = search needs
