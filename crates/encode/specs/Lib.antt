@@ -1,0 +1,15 @@
+pub mod Picture
+pub mod Header
+pub mod File
+pub mod Writing
+pub mod Job
+pub mod Answer
+pub mod Limits
+pub mod Bounds
+pub mod Parts
+pub mod Measuring
+pub mod Line
+pub mod Lines
+pub mod Plan
+pub mod Accepting
+pub mod Whole

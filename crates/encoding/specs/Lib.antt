@@ -1,0 +1,15 @@
+pub mod Over
+pub mod Runs
+pub mod Bodies
+pub mod OverLaws
+pub mod WordLaws
+pub mod ByteLaws
+pub mod Left
+pub mod Leading
+pub mod Pieces
+pub mod RunLaws
+pub mod PairLaws
+pub mod RoundTripWords
+pub mod RoundTripRuns
+pub mod RoundTripPairs
+pub mod RoundTrip

@@ -1,0 +1,9 @@
+pub mod Statement
+pub mod Given
+pub mod Rows
+pub mod Line
+pub mod Chain
+pub mod Head
+pub mod Accepted
+pub mod Colors
+pub mod Law

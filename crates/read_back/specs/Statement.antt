@@ -1,0 +1,47 @@
+-- "Reading them gives back every pixel": one claim about a file that was written and its reading.
+use Prim.Native.Nat.{ℕ, _+_, _*_}
+use mathlib.Core.Path.{_≡_}
+use mathlib.Core.Bool.{cond}
+use mathlib.Core.List.{List, _++_}
+use lib.ListN.{length, getD, drop, replicate}
+use lib.Dec.{eqb, ltb}
+use Rattle.header.specs.Fields.{resolutionOf}
+use Rattle.header.specs.Reading.{HeaderNumbers, headerReading}
+use Rattle.color.specs.Color.{ColorNumbers, color, noColor, grayColor, colorReading}
+use Rattle.layout.specs.Reading.{RasterNumbers, rasterReading, pixelsAfter, marksAfter}
+use Rattle.encode.specs.Picture.{Picture, picturePixels}
+use Rattle.encode.specs.Header.{ctvOf}
+use Rattle.encode.specs.File.{fileBytes}
+
+-- the header's fields are those given
+abbrev pub givenHeader : Picture → HeaderNumbers
+givenHeader i =
+    record {
+      number = 0;
+      dataType = i .dtc;
+      blocks = 2 + ctvOf (i .table);
+      ppl = i .ppl;
+      nol = i .nol;
+      resolution = resolutionOf (i .drs);
+      slo = i .slo;
+      scn = i .scn;
+      ctv = ctvOf (i .table);
+      cte = 0;
+    }
+
+-- the colors are those of the table, or grays without one
+abbrev pub givenColor : Picture → ℕ → ColorNumbers
+givenColor i v =
+    cond (eqb (length (i .table)) 0) (grayColor v)
+    (cond (ltb 255 v) (noColor 25)
+    (color (256 * getD (i .table) (3 * v) 0) (256 * getD (i .table) (3 * v + 1) 0) (256 * getD (i .table) (3 * v + 2) 0)))
+
+-- the written file read into buffers that held pixels and marks, with room for it
+pub record ReadsBack (i : Picture) (pixels marks : List ℕ) : Type 0 where
+  pub header : headerReading (fileBytes i) ≡ givenHeader i
+  pub colors : (v : ℕ) → colorReading (fileBytes i) v ≡ givenColor i v
+  -- not rejected, every scanline good, and the end is the written length
+  pub answer : rasterReading (fileBytes i) pixels marks ≡ record { answer = 0; good = i .nol; end = length (fileBytes i) }
+  pub marks-are : marksAfter (fileBytes i) pixels marks ≡ replicate (i .nol) 0 ++ drop (i .nol) marks
+  -- the pixels given, then what was there
+  pub pixels-are : pixelsAfter (fileBytes i) pixels marks ≡ picturePixels i ++ drop (i .nol * i .ppl) pixels
