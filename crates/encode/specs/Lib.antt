@@ -3,3 +3,4 @@ pub mod Header
 pub mod File
 pub mod Writing
 pub mod Job
+pub mod HeadLaws
