@@ -13,3 +13,4 @@ pub mod Lines
 pub mod Plan
 pub mod Accepting
 pub mod Whole
+pub mod HeadLaws
