@@ -1,6 +1,4 @@
-use Prim.Native.Nat.{ℕ}
-use mathlib.Core.List.{List}
-use mathlib.Core.Path.{ap, _≡_, sym, _∙_}
+use mathlib.Core.Path.{_≡_, sym, _∙_}
 use lib.ListN.{length, set}
 use mathlib.Core.Logic.{⊎-elim}
 use borrow.Author.Needs.{needs}
@@ -28,8 +26,8 @@ returns c =
     let u = s .before .before .before .before in
     let a = u .before .before .before .before .args in
     let r = a .row .now in
-    let e = c .before .before .put-byte .ensures ∙ ap (λ (l : List ℕ). set l (length r) 0) (u .put-low-bytes .ensures) in
-    rw (body-spare (a .scn) r (s .before .if1 .taken) (s .if2 .taken)) (sym (length-spare r), e ∙ sets-spare r (a .out .now))
+    let e : c .before .before .put-byte .last .0 ≡ set (u .put-low-bytes .last .1 .0) (length r) 0 = c .before .before .put-byte .ensures in
+    rw (body-spare (a .scn) r (s .before .if1 .taken) (s .if2 .taken)) (sym (length-spare r), e ∙ rw (u .put-low-bytes .ensures) (sets-spare r (a .out .now)))
 
 same-length-2 : tie.Need-same-length-2
 same-length-2 c = search needs

@@ -79,8 +79,7 @@ sub-level : tie.Need-sub-level Inv-loop μ-loop
 sub-level c = search needs
 
 loop-less : tie.Need-loop-less Inv-loop μ-loop
-loop-less c =
-    omega arith
+loop-less c = omega arith
 
 loop-again : tie.Need-loop-again Inv-loop μ-loop
 loop-again c =
