@@ -1,0 +1,53 @@
+// A picture written and read back, and the law that joins the two calls: reading gives back every pixel.
+//
+// The function makes both calls, so that its promise says it of the calls themselves and not only of definitions.
+ghost use mathlib.Core.Path.{_≡_};
+ghost use Prim.Native.Nat.{_*_, _≤_};
+ghost use lib.ListN.{length};
+ghost use Rattle.encode.specs.Answer.{picture};
+ghost use Rattle.encode.specs.Writing.{writerRejection};
+ghost use Rattle.round_trip.specs.Call.{BothCalls, GivenBack};
+use encode::WriteAnswer;
+use encode::write_raster;
+use raster::RasterAnswer;
+use raster::read_raster;
+
+// What the writer answered, and the reader where the writer did not reject the picture: else zeros.
+pub struct RoundTrip {
+    pub written: WriteAnswer,
+    pub read: RasterAnswer,
+}
+
+// Writes a picture to the output and reads what was written into `back` and `marks`. Where the writer does not reject it
+// and there is room for the reading, every pixel comes back.
+pub fn write_and_read(
+    dtc: u32,
+    ppl: u32,
+    nol: u32,
+    slo: u32,
+    scn: u32,
+    drs: u16,
+    table: &[u8],
+    pixels: &[u16],
+    out: &mut [u8],
+    back: &mut [u16],
+    marks: &mut [u8],
+) -> RoundTrip
+    ensures calls { λ r. ⌜ BothCalls (picture dtc ppl nol slo scn drs (now (table .entry)) (now (pixels .entry))) (now (out .entry)) (now (back .entry)) (now (marks .entry)) r (now (out .exit)) (now (back .exit)) (now (marks .exit)) ⌝ }
+    ensures read_back { λ r. ⌜ (writerRejection (picture dtc ppl nol slo scn drs (now (table .entry)) (now (pixels .entry))) (length (now (out .entry))) ≡ 0 → nol * ppl ≤ length (now (back .entry)) → nol ≤ length (now (marks .entry)) → GivenBack (picture dtc ppl nol slo scn drs (now (table .entry)) (now (pixels .entry))) (now (back .entry)) (now (marks .entry)) r (now (out .exit)) (now (back .exit)) (now (marks .exit))) ⌝ }
+{
+    let written = write_raster(dtc, ppl, nol, slo, scn, drs, table, pixels, out);
+    if written.number != 0 {
+        return RoundTrip {
+            written,
+            read: RasterAnswer {
+                answer: 0,
+                good: 0,
+                end: 0,
+            },
+        };
+    }
+    let size = written.size;
+    let read = read_raster(&out[..size], back, marks);
+    RoundTrip { written, read }
+}
