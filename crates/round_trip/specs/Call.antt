@@ -3,7 +3,8 @@ use Prim.Native.Nat.{ℕ, _*_, _≤_, _<_}
 use mathlib.Core.Path.{_≡_, refl, sym, _∙_, ap}
 use mathlib.Core.Bool.{Bool, true, false, cond}
 use mathlib.Core.List.{List, _++_}
-use lib.ListN.{length, take, drop, replicate}
+use native.Mathlib.Omega.{arith}
+use lib.ListN.{length, take, drop, replicate, length-append, length-drop}
 use lib.Seq.{take-at}
 use lib.Dec.{eqb}
 use borrow.Author.Tests.{eq-eqb, eqb-true, ltb-false}
@@ -67,15 +68,17 @@ module _ (i : Picture) (out : List ℕ) (ok : writerRejection i (length out) ≡
   begins n out′ s o = rw (o, holds) (take-at (fileBytes i) (drop (length (fileBytes i)) out) n (sym s))
 
 -- the number that the writer answered is that of its rejection, and where that is 0 the file's length follows
+wrote-numbers : Picture → ℕ → Bool → WriteNumbers
+wrote-numbers i n b = cond b (record { number = 0; size = length (fileBytes i) }) (record { number = n; size = 0 })
+
+number-by : (i : Picture) (n : ℕ) (b : Bool) → eqb n 0 ≡ b → wrote-numbers i n b .number ≡ n
+unfolding wrote-numbers
+number-by i n true e = sym (eqb-true n 0 e)
+number-by i n false e = refl
+
 number-of : (i : Picture) (room : ℕ) → writing i room .number ≡ writerRejection i room
-unfolding writing
-number-of i room = go (eqb (writerRejection i room) 0) refl
-  where
-    go : (b : Bool) → eqb (writerRejection i room) 0 ≡ b
-        → cond b (record { number = 0; size = length (fileBytes i) }) (record { number = writerRejection i room; size = 0 }) .number
-        ≡ writerRejection i room
-    go true e = sym (eqb-true (writerRejection i room) 0 e)
-    go false e = refl
+unfolding writing wrote-numbers
+number-of i room = number-by i (writerRejection i room) (eqb (writerRejection i room) 0) refl
 
 pub number-is : (i : Picture) (room : ℕ) (w : WriteAnswer) → writeNumbers w ≡ writing i room → w .number ≡ writerRejection i room
 number-is i room w e = ap (λ (x : WriteNumbers). x .number) e ∙ number-of i room
@@ -85,6 +88,22 @@ size-fits i out w e z =
     let ok : writerRejection i (length out) ≡ 0 = sym (number-is i (length out) w e) ∙ z in
     let s : w .size ≡ length (fileBytes i) = ap (λ (x : WriteNumbers). x .size) (e ∙ writes i out ok) in
     rw s (fits i (length out) ok)
+
+unwritten : (i : Picture) (out : List ℕ) → eqb (writerRejection i (length out)) 0 ≡ false → outAfter i out ≡ out
+unfolding outAfter
+unwritten i out e = rw e
+
+-- the writer keeps the output's length
+pub length-after : (i : Picture) (out : List ℕ) → length (outAfter i out) ≡ length out
+length-after i out = go (eqb (writerRejection i (length out)) 0) refl
+  where
+    go : (b : Bool) → eqb (writerRejection i (length out)) 0 ≡ b → length (outAfter i out) ≡ length out
+    go true e =
+        let ok = eqb-true (writerRejection i (length out)) 0 e in
+        ap length (holds i out ok)
+        ∙ length-append (fileBytes i) (drop (length (fileBytes i)) out)
+        ∙ omega (arith, length-drop (length (fileBytes i)) out, fits i (length out) ok)
+    go false e = ap length (unwritten i out e)
 
 pub given-back : (i : Picture) (out back marks : List ℕ) (r : RoundTrip) (out′ back′ marks′ : List ℕ)
     → i .drs < 65536

@@ -1,10 +1,14 @@
+use lib.Seq.{length-take-le}
+use lib.ListN.{length}
+use native.Mathlib.Omega.{arith}
+use Prim.Native.Nat.{_≤_}
+use mathlib.Core.Path.{_≡_, refl, sym, _∙_, ap}
 use borrow.Author.Needs.{needs}
+use Rattle.round_trip.specs.Call.{BothCalls, number-is, size-fits, length-after, given-back}
+use Rattle.encode.specs.Answer.{picture}
+use Rattle.encode.specs.Picture.{Picture}
 use Rattle.round_trip.proofs.write_and_read.Statement.{statement}
 use Rattle.round_trip.proofs.write_and_read.Tie as tie
-use Rattle.round_trip.proofs.write_and_read.Reads as reads
-use Rattle.round_trip.proofs.write_and_read.Lts as lts
-use Rattle.encode.proofs.write_raster.Reads as write-raster-reads
-use Rattle.raster.proofs.read_raster.Reads as read-raster-reads
 
 write-raster-requires : tie.Need-write-raster-requires
 write-raster-requires c κs = search needs
@@ -13,13 +17,33 @@ same-length : tie.Need-same-length
 same-length c = search needs
 
 returns : tie.Need-returns
-returns c = ?
+returns c =
+    let a = c .before .before .before .before .before .before .before .before .before .before .before .args in
+    let w = c .before .before .before .before .write-raster in
+    let i : Picture = (picture (a .dtc) (a .ppl) (a .nol) (a .slo) (a .scn) (a .drs) (a .table .now) (a .pixels .now)) in
+    let both : BothCalls i (a .out .now) (a .back .now) (a .marks .now) (record { written = w .result; read = record { answer = 0; good = 0; end = 0 } }) (w .last .1 .1 .1 .1 .1 .1 .1 .1 .0) (a .back .now) (a .marks .now) =
+    record {
+      wrote = w .ensures .0;
+      out-is = w .ensures .1;
+      unread = λ z. (refl, (refl, refl));
+      read-is = λ z. absurd (c .if1 .taken z);
+    } in
+    (both, λ ok px mk. absurd (c .if1 .taken (number-is i (length (a .out .now)) (w .result) (w .ensures .0) ∙ ok)))
 
 slice-reshare-prefix-read-raster : tie.Need-slice-reshare-prefix-read-raster
-slice-reshare-prefix-read-raster c = ?
+slice-reshare-prefix-read-raster c =
+    let a = c .before .before .before .before .before .before .before .before .before .before .before .args in
+    let w = c .before .before .before .before .write-raster in
+    let l : length (w .last .1 .1 .1 .1 .1 .1 .1 .1 .0) ≡ length (a .out .now) = ap length (w .ensures .1) ∙ length-after (picture (a .dtc) (a .ppl) (a .nol) (a .slo) (a .scn) (a .drs) (a .table .now) (a .pixels .now)) (a .out .now) in
+    omega (arith, size-fits (picture (a .dtc) (a .ppl) (a .nol) (a .slo) (a .scn) (a .drs) (a .table .now) (a .pixels .now)) (a .out .now) (w .result) (w .ensures .0) (c .if1 .left), l)
 
 slice-aggregate-read-raster : tie.Need-slice-aggregate-read-raster
-slice-aggregate-read-raster c = ?
+slice-aggregate-read-raster c =
+    let a = c .before .before .before .before .before .before .before .before .before .before .before .before .args in
+    let w = c .before .before .before .before .before .write-raster in
+    let l : length (w .last .1 .1 .1 .1 .1 .1 .1 .1 .0) ≡ length (a .out .now) = ap length (w .ensures .1) ∙ length-after (picture (a .dtc) (a .ppl) (a .nol) (a .slo) (a .scn) (a .drs) (a .table .now) (a .pixels .now)) (a .out .now) in
+    let s : w .result .size ≤ length (w .last .1 .1 .1 .1 .1 .1 .1 .1 .0) = omega (arith, size-fits (picture (a .dtc) (a .ppl) (a .nol) (a .slo) (a .scn) (a .drs) (a .table .now) (a .pixels .now)) (a .out .now) (w .result) (w .ensures .0) (c .before .if1 .left), l) in
+    sym (length-take-le (w .result .size) (w .last .1 .1 .1 .1 .1 .1 .1 .1 .0) s)
 
 read-raster-requires : tie.Need-read-raster-requires
 read-raster-requires c κs = search needs
@@ -34,7 +58,20 @@ same-length-4 : tie.Need-same-length-4
 same-length-4 c = search needs
 
 returns-2 : tie.Need-returns-2
-returns-2 c = ?
+returns-2 c =
+    let a = c .before .before .before .before .before .before .before .before .before .before .before .before .before .before .before .before .before .before .before .args in
+    let w = c .before .before .before .before .before .before .before .before .before .before .before .before .write-raster in
+    let i : Picture = (picture (a .dtc) (a .ppl) (a .nol) (a .slo) (a .scn) (a .drs) (a .table .now) (a .pixels .now)) in
+    let d = c .before .before .before .before .read-raster in
+    let z = c .before .before .before .before .before .before .before .before .if1 .left in
+    let both : BothCalls i (a .out .now) (a .back .now) (a .marks .now) (record { written = w .result; read = d .result }) (w .last .1 .1 .1 .1 .1 .1 .1 .1 .0) (d .last .1 .0) (d .last .1 .1 .0) =
+    record {
+      wrote = w .ensures .0;
+      out-is = w .ensures .1;
+      unread = λ n. absurd (n z);
+      read-is = λ n. (d .ensures .0, (d .ensures .1 .0, d .ensures .1 .1));
+    } in
+    (both, given-back i (a .out .now) (a .back .now) (a .marks .now) (record { written = w .result; read = d .result }) (w .last .1 .1 .1 .1 .1 .1 .1 .1 .0) (d .last .1 .0) (d .last .1 .1 .0) (c .before .before .before .before .before .before .before .before .before .before .before .before .before .before .before .before .before .before .before .fits .drs .fits) both)
 
 pub write-and-read-spec : {M : Type 1} → statement M
 write-and-read-spec =
