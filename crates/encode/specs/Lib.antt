@@ -14,3 +14,4 @@ pub mod Plan
 pub mod Accepting
 pub mod Whole
 pub mod HeadLaws
+pub mod Resolution

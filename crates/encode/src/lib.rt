@@ -5,6 +5,7 @@
 mod body;
 mod head;
 mod limits;
+mod resolution;
 
 ghost use mathlib.Core.Path.{_≡_};
 ghost use mathlib.Core.Bool.{_&&_, _||_};
@@ -23,6 +24,7 @@ pub use head::write_header;
 use limits::any_above;
 use limits::field_rejection;
 use limits::highest;
+pub use resolution::drs_bits;
 
 // What is written, within the format's limits: the fields by the format's names, DRS as its 16 stored bits.
 pub struct Job {
