@@ -7,7 +7,8 @@ pub fn drs_bits(drs: i16) -> u16
     ensures { λ r. ⌜ r ≡ drsBits drs ⌝ }
 {
     if drs < 0 {
-        return ((drs as i32) + 65536) as u16;
+        // Turned, the bits of a negative number are those of one that a cast takes.
+        return !(!drs as u16);
     }
     drs as u16
 }
