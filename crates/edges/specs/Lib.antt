@@ -1,3 +1,4 @@
-pub mod Files
 pub mod Cases
+pub mod Files
 pub mod Written
+pub mod laws

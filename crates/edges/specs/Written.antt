@@ -1,28 +1,11 @@
--- Case 11: the words of type 9 bodies that are written for a run above 32,767. A run of equal pixels is counted by a law, and
--- how it is cut is computed.
-use Prim.Native.Nat.{ℕ, zero, suc, _+_}
-use mathlib.Core.Path.{_≡_, refl, _∙_, ap}
-use mathlib.Core.List.{List, [], _∷_}
-use native.Mathlib.Omega.{arith}
+-- Case 11: the words of type 9 bodies that are written for a run above 32,767.
+use mathlib.Core.Path.{_≡_}
+use mathlib.Core.List.{[], _∷_}
 use lib.ListN.{replicate}
-use borrow.Author.Tests.{eq-eqb}
-use Rattle.encoding.specs.Runs.{levelRuns, levelPieces, cutLevels, runWords}
+use Rattle.encode_body.specs.Runs.{runWords}
 
-counted : (v k n : ℕ) → levelRuns v k (replicate n v) ≡ levelRuns v (k + n) []
-unfolding levelRuns
-counted v k zero = ap (λ (m : ℕ). levelRuns v m []) (let e : k ≡ k + 0 = omega arith in e)
-counted v k (suc n) =
-    rw (eq-eqb v v refl)
-    (counted v (k + 1) n ∙ ap (λ (m : ℕ). levelRuns v m []) (let e : k + 1 + n ≡ k + suc n = omega arith in e))
+abbrev pub Off32768 : Type 0
+Off32768 = runWords (replicate 32768 0) ≡ 32767 ∷ 0 ∷ 1 ∷ []
 
-pub off-32768 : runWords (replicate 32768 0) ≡ 32767 ∷ 0 ∷ 1 ∷ []
-unfolding levelRuns levelPieces cutLevels
-off-32768 = ap cutLevels (counted 0 0 32768)
-
-on-runs : (n : ℕ) → levelRuns 0 0 (replicate (suc n) 1) ≡ 0 ∷ levelRuns 1 (1 + n) []
-unfolding levelRuns
-on-runs n = ap (λ (r : List ℕ). 0 ∷ r) (counted 1 1 n)
-
-pub on-32768 : runWords (replicate 32768 1) ≡ 0 ∷ 32767 ∷ 0 ∷ 1 ∷ 0 ∷ []
-unfolding levelRuns levelPieces cutLevels
-on-32768 = ap cutLevels (on-runs 32767)
+abbrev pub On32768 : Type 0
+On32768 = runWords (replicate 32768 1) ≡ 0 ∷ 32767 ∷ 0 ∷ 1 ∷ 0 ∷ []

@@ -1,4 +1,4 @@
 pub mod Fields
-pub mod Rejections
 pub mod Reading
-pub mod Accepted
+pub mod Rejections
+pub mod laws

@@ -1,13 +1,14 @@
 -- "Numbers a call is refused with", 10 to 22: the rejections of a file, in the order in which they are checked.
-use Prim.Native.Nat.{ℕ, _+_, _-_, _*_}
-use mathlib.Core.Bool.{Bool, true, false, not, cond, _&&_, _||_}
+use Prim.Native.Nat.{ℕ, _+_, _-_, _*_, _/_, _≤_, _<_}
+use mathlib.Core.Logic.{_↔_}
+use mathlib.Core.Path.{_≡_}
+use mathlib.Core.Bool.{Bool, true, false, not, _&&_, _||_}
 use mathlib.Core.List.{List, [], _∷_, _++_}
 use lib.ListN.{length}
 use lib.Dec.{eqb, ltb}
-use Rattle.units.specs.declared.Words.{Words}
 use Rattle.units.specs.Counts.{wordsOfBlocks, bytesOfBlocks, bytesOfWords}
 use Rattle.units.specs.LittleEndian.{u16At}
-use Rattle.units.specs.Rows.{Row, row, first}
+use Rattle.units.specs.Rules.{Rule, rule, first}
 use Rattle.units.specs.Scan.{scan}
 use Rattle.header.specs.declared.fields.Fields.{Fields}
 use Rattle.header.specs.Fields.{fieldsOf, headerBlocks}
@@ -39,44 +40,52 @@ unfoldable pub sharesSlot : List ℕ → ℕ → Bool
 sharesSlot f n = scan (λ i. slotOccurs f (slotAt f i) (i + 1) n) (λ i. true) false 0 (n - 0)
 
 -- the file's length, the header's marks and its length
-abbrev pub frameRows : ℕ → Fields → List Row
-frameRows size h =
-    row 10 (ltb 2147483647 size) ∷
-    row 11 (ltb size 1024) ∷
-    row 12 (not (eqb (h .htc) 0x0908)) ∷
-    row 13 (not (eqb (wordsOfBlocks (headerBlocks h) .0) (h .wtf + 2))) ∷
-    row 13 (ltb (headerBlocks h .0) 2) ∷
-    row 14 (ltb size (bytesOfBlocks (headerBlocks h) .0)) ∷
-    row 15 (not (eqb (h .ver) 3)) ∷
+abbrev pub frameRules : ℕ → Fields → List Rule
+frameRules size h =
+    rule 10 (ltb 2147483647 size) ∷
+    rule 11 (ltb size 1024) ∷
+    rule 12 (not (eqb (h .htc) 0x0908)) ∷
+    rule 13 (not (eqb (wordsOfBlocks (headerBlocks h) .0) (h .wtf + 2))) ∷
+    rule 13 (ltb (headerBlocks h .0) 2) ∷
+    rule 14 (ltb size (bytesOfBlocks (headerBlocks h) .0)) ∷
+    rule 15 (not (eqb (h .ver) 3)) ∷
     []
 
 -- fields within their limits
-abbrev pub fieldRows : Fields → List Row
-fieldRows h =
-    row 16 (not (isDataType (h .dtc))) ∷
-    row 17 (ltb 7 (h .slo)) ∷
-    row 18 (ltb 1 (h .scn)) ∷
-    row 19 (eqb (h .ppl) 0) ∷
-    row 19 (ltb 65535 (h .ppl)) ∷
-    row 20 (eqb (h .nol) 0) ∷
-    row 20 (ltb 65535 (h .nol)) ∷
+abbrev pub limitRules : Fields → List Rule
+limitRules h =
+    rule 16 (not (isDataType (h .dtc))) ∷
+    rule 17 (ltb 7 (h .slo)) ∷
+    rule 18 (ltb 1 (h .scn)) ∷
+    rule 19 (eqb (h .ppl) 0) ∷
+    rule 19 (ltb 65535 (h .ppl)) ∷
+    rule 20 (eqb (h .nol) 0) ∷
+    rule 20 (ltb 65535 (h .nol)) ∷
     []
 
 -- the color table
-abbrev pub tableRows : List ℕ → Fields → List Row
-tableRows f h =
-    row 21 (ltb 2 (h .ctv)) ∷
-    row 21 (eqb (h .ctv) 1 && ltb (headerBlocks h .0) 3) ∷
-    row 21 (eqb (h .ctv) 2 && eqb (h .cte) 0) ∷
-    row 21 (eqb (h .ctv) 2 && ltb 256 (h .cte)) ∷
-    row 21 (eqb (h .ctv) 2 && ltb (bytesOfBlocks (headerBlocks h) .0) (entryStart (h .cte))) ∷
-    row 22 (eqb (h .ctv) 2 && sharesSlot f (h .cte)) ∷
+abbrev pub colorTableRules : List ℕ → Fields → List Rule
+colorTableRules f h =
+    rule 21 (ltb 2 (h .ctv)) ∷
+    rule 21 (eqb (h .ctv) 1 && ltb (headerBlocks h .0) 3) ∷
+    rule 21 (eqb (h .ctv) 2 && eqb (h .cte) 0) ∷
+    rule 21 (eqb (h .ctv) 2 && ltb 256 (h .cte)) ∷
+    rule 21 (eqb (h .ctv) 2 && ltb (bytesOfBlocks (headerBlocks h) .0) (entryStart (h .cte))) ∷
+    rule 22 (eqb (h .ctv) 2 && sharesSlot f (h .cte)) ∷
     []
 
 -- the whole table
-abbrev pub rejections : List ℕ → List Row
-rejections f = frameRows (length f) (fieldsOf f) ++ (fieldRows (fieldsOf f) ++ tableRows f (fieldsOf f))
+abbrev pub rejections : List ℕ → List Rule
+rejections f = frameRules (length f) (fieldsOf f) ++ (limitRules (fieldsOf f) ++ colorTableRules f (fieldsOf f))
 
 -- the number a file is rejected with, or 0
 unfoldable pub rejection : List ℕ → ℕ
 rejection f = first (rejections f)
+
+-- "WTF not 256n - 2 for an n from 2 to 256": the two rules of 13 hold for no header whose WTF is of that form, and for every
+-- other one of them does. `rules-13` proves it.
+abbrev pub WholeBlocks : ℕ → Type 0
+WholeBlocks wtf = (n : ℕ) × (2 ≤ n) × (n ≤ 256) × (wtf + 2 ≡ 256 * n)
+
+abbrev pub Rules13 : Type 0
+Rules13 = (wtf : ℕ) → wtf < 65536 → ((256 * ((wtf + 2) / 256) ≡ wtf + 2) × (2 ≤ (wtf + 2) / 256)) ↔ WholeBlocks wtf

@@ -1,8 +1,8 @@
 // The rejections of a file, in the order of the table. Each function answers the number of the first row of its part of
 // the table that holds, or 0.
 ghost use mathlib.Core.Path.{_≡_};
-ghost use Rattle.units.specs.Rows.{first};
-ghost use Rattle.header.specs.Rejections.{frameRows, fieldRows, tableRows, isDataType, rejection, sharesSlot, slotOccurs, entryStart, slotAt};
+ghost use Rattle.units.specs.Rules.{first};
+ghost use Rattle.header.specs.Rejections.{frameRules, limitRules, colorTableRules, isDataType, rejection, sharesSlot, slotOccurs, entryStart, slotAt};
 use crate::fields::Fields;
 use crate::fields::fields_of;
 use crate::fields::header_blocks;
@@ -30,7 +30,7 @@ pub fn rejection_of(file: &[u8]) -> u16
 
 // 10 to 15: the file's length, the header's marks and its length.
 fn frame_rejection(size: usize, h: Fields) -> u16
-    ensures { λ r. ⌜ r ≡ first (frameRows size h) ⌝ }
+    ensures { λ r. ⌜ r ≡ first (frameRules size h) ⌝ }
 {
     let blocks = header_blocks(h);
     let words = blocks_to_words(blocks);
@@ -61,7 +61,7 @@ fn frame_rejection(size: usize, h: Fields) -> u16
 
 // 16 to 20: fields within their limits.
 fn field_rejection(h: Fields) -> u16
-    ensures { λ r. ⌜ r ≡ first (fieldRows h) ⌝ }
+    ensures { λ r. ⌜ r ≡ first (limitRules h) ⌝ }
 {
     if !is_data_type(h.dtc) {
         return 16;
@@ -107,7 +107,7 @@ fn is_data_type(dtc: u16) -> bool
 
 // 21 and 22: a color table of a known kind, within the header, whose slots are distinct.
 fn table_rejection(file: &[u8], h: Fields) -> u16
-    ensures { λ r. ⌜ r ≡ first (tableRows (now (file .entry)) h) ⌝ }
+    ensures { λ r. ⌜ r ≡ first (colorTableRules (now (file .entry)) h) ⌝ }
 {
     let blocks = header_blocks(h);
     if 2 < h.ctv {

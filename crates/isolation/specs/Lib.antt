@@ -1,9 +1,2 @@
 pub mod Statement
-pub mod Same
-pub mod Headers
-pub mod Headed
-pub mod Chained
-pub mod Buffers
-pub mod OneFile
-pub mod TwoFiles
-pub mod Law
+pub mod laws

@@ -2,12 +2,12 @@
 use Prim.Native.Nat.{ℕ, _+_, _*_, _≤_, _<_}
 use mathlib.Core.Path.{_≡_}
 use mathlib.Core.Logic.{_↔_}
-use mathlib.Core.Bool.{Bool, true, false, cond}
+use mathlib.Core.Bool.{true, false, cond}
 use mathlib.Core.List.{List, []}
 use lib.ListN.{length, getD, take, drop, replicate}
 use Rattle.layout.specs.Scanline.{Reading, reading, unreached, headOf, bodyOf}
-use Rattle.layout.specs.Chain.{scnOf, typeOf, pplOf, nolOf, numberOf, start, reached, endOf}
-use Rattle.layout.specs.Reading.{RasterNumbers, rasterRejection, rejectedRaster}
+use Rattle.layout.specs.Chain.{typeOf, pplOf, nolOf, numberOf, start, reached, endOf}
+use Rattle.layout.specs.Reading.{RasterNumbers, rejectedRaster}
 
 -- the header bytes and the body of scanline k, as far as they lie in the file; a scanline that is not reached has none
 abbrev pub headAt : List ℕ → ℕ → List ℕ

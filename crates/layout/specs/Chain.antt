@@ -1,9 +1,9 @@
 -- "Line headers and bodies" and "Reading a sheet": the chain of scanlines of a file. Scanlines are counted from 0 here, so
 -- that line k of the paper is the scanline k - 1.
 use Prim.Native.Nat.{ℕ, zero, suc, _+_}
-use mathlib.Core.Bool.{Bool, true, false, not, cond, _&&_}
+use mathlib.Core.Bool.{Bool, true, not, cond, _&&_}
 use mathlib.Core.List.{List, [], _∷_, _++_}
-use lib.ListN.{length, drop}
+use lib.ListN.{drop}
 use lib.Dec.{eqb}
 use Rattle.units.specs.Counts.{bytesOfBlocks}
 use Rattle.header.specs.Fields.{fieldsOf, headerBlocks}

@@ -1,5 +1,4 @@
-pub mod Scanline
 pub mod Chain
 pub mod Reading
-pub mod LineLaws
-pub mod ChainLaws
+pub mod Scanline
+pub mod laws

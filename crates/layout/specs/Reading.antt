@@ -1,20 +1,20 @@
 -- "Reading a sheet": the reading of a raster into a buffer of pixels and a buffer of statuses, as the paper's numbers, and
 -- what the buffers hold then.
 use Prim.Native.Nat.{ℕ, _*_}
-use mathlib.Core.Bool.{Bool, cond}
+use mathlib.Core.Bool.{cond}
 use mathlib.Core.List.{List, [], _∷_, _++_}
 use lib.ListN.{length, drop}
 use lib.Dec.{eqb, ltb}
-use Rattle.units.specs.Rows.{Row, row, first}
+use Rattle.units.specs.Rules.{Rule, rule, first}
 use Rattle.header.specs.Rejections.{rejections}
 use Rattle.layout.specs.Chain.{pplOf, nolOf, rows, statuses, good, endOf}
 
 -- "Numbers a call is refused with": a file's, then 23 and 24
-abbrev pub bufferRows : ℕ → ℕ → ℕ → ℕ → List Row
-bufferRows ppl nol pixels marks = row 23 (ltb pixels (nol * ppl)) ∷ row 24 (ltb marks nol) ∷ []
+abbrev pub bufferRules : ℕ → ℕ → ℕ → ℕ → List Rule
+bufferRules ppl nol pixels marks = rule 23 (ltb pixels (nol * ppl)) ∷ rule 24 (ltb marks nol) ∷ []
 
 unfoldable pub rasterRejection : List ℕ → ℕ → ℕ → ℕ
-rasterRejection f pixels marks = first (rejections f ++ bufferRows (pplOf f) (nolOf f) pixels marks)
+rasterRejection f pixels marks = first (rejections f ++ bufferRules (pplOf f) (nolOf f) pixels marks)
 
 -- 0 where every scanline is good, 1 where not, or the number of the rejection; how many are good; and the end
 pub record RasterNumbers : Type 0 where

@@ -5,15 +5,15 @@ use mathlib.Core.List.{List, [], _∷_, _++_}
 use lib.ListN.{length, take, drop, replicate}
 use lib.Dec.{eqb, ltb}
 use Rattle.units.specs.LittleEndian.{byteAt, u16At}
-use Rattle.units.specs.Rows.{Row, row, first}
+use Rattle.units.specs.Rules.{Rule, rule, first}
 use Rattle.units.specs.Words.{words, wordBytes}
-use Rattle.bodies.specs.Pixels.{bytePixels, wordPixels, runPixels, pairPixels}
-use Rattle.bodies.specs.Statuses.{byteRows, wordRows, runRows, pairRows, rowOf}
-use Rattle.bodies.specs.Extents.{ExtentNumbers, byteExtent, wordExtent, runExtent, pairExtent}
+use Rattle.decode_body.specs.Pixels.{bytePixels, wordPixels, runPixels, pairPixels}
+use Rattle.decode_body.specs.Statuses.{byteRules, wordRules, runRules, pairRules, rowOf}
+use Rattle.decode_body.specs.Extents.{ExtentNumbers, byteExtent, wordExtent, runExtent, pairExtent}
 
 -- by data type: the statuses of a body, its pixels, and what a scanline without a header takes
-unfoldable pub bodyRows : ℕ → List ℕ → ℕ → List Row
-bodyRows t b p = cond (eqb t 2) (byteRows b p) (cond (eqb t 3) (wordRows b p) (cond (eqb t 9) (runRows b p) (pairRows b p)))
+unfoldable pub bodyRules : ℕ → List ℕ → ℕ → List Rule
+bodyRules t b p = cond (eqb t 2) (byteRules b p) (cond (eqb t 3) (wordRules b p) (cond (eqb t 9) (runRules b p) (pairRules b p)))
 
 unfoldable pub bodyPixels : ℕ → List ℕ → ℕ → List ℕ
 bodyPixels t b p =
@@ -36,27 +36,27 @@ abbrev pub bodySize : List ℕ → ℕ
 bodySize hd = wordBytes (following hd - 2)
 
 -- no body without eight header bytes, a right identifier and W of 2 or more
-abbrev pub headRows : List ℕ → List Row
-headRows hd =
-    row 1 (ltb (length hd) 8) ∷
-    row 2 (not (eqb (byteAt hd 1) 0x59)) ∷
-    row 3 (ltb (following hd) 2) ∷
+abbrev pub headRules : List ℕ → List Rule
+headRules hd =
+    rule 1 (ltb (length hd) 8) ∷
+    rule 2 (not (eqb (byteAt hd 1) 0x59)) ∷
+    rule 3 (ltb (following hd) 2) ∷
     []
 
 -- the body, as far as it lies in the file
 unfoldable pub bodyOf : List ℕ → List ℕ
-bodyOf rest = cond (eqb (first (headRows (headOf rest))) 0) (take (bodySize (headOf rest)) (drop 8 rest)) []
+bodyOf rest = cond (eqb (first (headRules (headOf rest))) 0) (take (bodySize (headOf rest)) (drop 8 rest)) []
 
 -- a scanline is lost exactly where one of these holds
-abbrev pub lostRows : List ℕ → List ℕ → List Row
-lostRows hd body = headRows hd ++ (row 1 (ltb (length body) (bodySize hd)) ∷ [])
+abbrev pub lostRules : List ℕ → List ℕ → List Rule
+lostRules hd body = headRules hd ++ (rule 1 (ltb (length body) (bodySize hd)) ∷ [])
 
-abbrev pub fieldRows : ℕ → List ℕ → List Row
-fieldRows number hd = row 4 (not (eqb (u16At hd 4) number)) ∷ row 5 (not (eqb (u16At hd 6) 0)) ∷ []
+abbrev pub placementRules : ℕ → List ℕ → List Rule
+placementRules number hd = rule 4 (not (eqb (u16At hd 4) number)) ∷ rule 5 (not (eqb (u16At hd 6) 0)) ∷ []
 
 -- the order of the statuses with headers
-abbrev pub statusRows : ℕ → ℕ → ℕ → List ℕ → List ℕ → List Row
-statusRows t p number hd body = lostRows hd body ++ (fieldRows number hd ++ bodyRows t body p)
+abbrev pub statusRules : ℕ → ℕ → ℕ → List ℕ → List ℕ → List Rule
+statusRules t p number hd body = lostRules hd body ++ (placementRules number hd ++ bodyRules t body p)
 
 -- The reading of a scanline: its status and its row. It is settled by the data type, the row's length, the wanted line
 -- number, the header's bytes and the body.
@@ -67,8 +67,8 @@ pub record Reading : Type 0 where
 unfoldable pub reading : ℕ → ℕ → ℕ → List ℕ → List ℕ → Reading
 reading t p number hd body =
     record {
-      status = first (statusRows t p number hd body);
-      row = rowOf (first (statusRows t p number hd body)) p (bodyPixels t body p);
+      status = first (statusRules t p number hd body);
+      row = rowOf (first (statusRules t p number hd body)) p (bodyPixels t body p);
     }
 
 -- a scanline that follows a lost one
@@ -83,7 +83,7 @@ pub record Line : Type 0 where
   pub used : ℕ
 
 unfoldable pub isLost : List ℕ → Bool
-isLost rest = not (eqb (first (lostRows (headOf rest) (bodyOf rest))) 0)
+isLost rest = not (eqb (first (lostRules (headOf rest) (bodyOf rest))) 0)
 
 abbrev pub headedLine : ℕ → ℕ → ℕ → List ℕ → Line
 headedLine t p number rest =

@@ -1,8 +1,8 @@
 // Lists the raster on standard input: a head and a row for each scanline, or the number that it is rejected with. An
 // input of more than 32,768 bytes is `too long`.
+use decode_raster::RasterAnswer;
 use libc::STDIN_FILENO;
 use libc::STDOUT_FILENO;
-use raster::RasterAnswer;
 use text::put;
 use text::put_decimal;
 use text::put_field;
@@ -20,7 +20,7 @@ fn main() {
 fn list(file: &[u8]) {
     let mut pixels = [0u16; 8192];
     let mut marks = [0u8; 256];
-    let r = raster::read_raster(file, &mut pixels, &mut marks);
+    let r = decode_raster::read_raster(file, &mut pixels, &mut marks);
     show(file, r, &pixels, &marks);
 }
 

@@ -1,9 +1,2 @@
 pub mod Statement
-pub mod Given
-pub mod Rows
-pub mod Line
-pub mod Chain
-pub mod Head
-pub mod Accepted
-pub mod Colors
-pub mod Law
+pub mod laws

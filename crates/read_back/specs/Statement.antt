@@ -8,10 +8,10 @@ use lib.Dec.{eqb, ltb}
 use Rattle.header.specs.Fields.{resolutionOf}
 use Rattle.header.specs.Reading.{HeaderNumbers, headerReading}
 use Rattle.color.specs.Color.{ColorNumbers, color, noColor, grayColor, colorReading}
-use Rattle.layout.specs.Reading.{RasterNumbers, rasterReading, pixelsAfter, marksAfter}
-use Rattle.encode.specs.Picture.{Picture, picturePixels}
-use Rattle.encode.specs.Header.{ctvOf}
-use Rattle.encode.specs.File.{fileBytes}
+use Rattle.layout.specs.Reading.{rasterReading, pixelsAfter, marksAfter}
+use Rattle.encode_raster.specs.Picture.{Picture, picturePixels}
+use Rattle.encode_raster.specs.Header.{ctvOf}
+use Rattle.encode_raster.specs.File.{fileBytes}
 
 -- the header's fields are those given
 abbrev pub givenHeader : Picture → HeaderNumbers

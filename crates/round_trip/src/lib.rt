@@ -4,13 +4,13 @@
 ghost use mathlib.Core.Path.{_≡_};
 ghost use Prim.Native.Nat.{_*_, _≤_};
 ghost use lib.ListN.{length};
-ghost use Rattle.encode.specs.Answer.{picture};
-ghost use Rattle.encode.specs.Writing.{writerRejection};
+ghost use Rattle.encode_raster.specs.Answer.{picture};
+ghost use Rattle.encode_raster.specs.Writing.{writerRejection};
 ghost use Rattle.round_trip.specs.Call.{BothCalls, GivenBack};
-use encode::WriteAnswer;
-use encode::write_raster;
-use raster::RasterAnswer;
-use raster::read_raster;
+use decode_raster::RasterAnswer;
+use decode_raster::read_raster;
+use encode_raster::WriteAnswer;
+use encode_raster::write_raster;
 
 // What the writer answered, and the reader where the writer did not reject the picture: else zeros.
 pub struct RoundTrip {

@@ -1,28 +1,12 @@
 -- One whole call, as the promise of `read_raster` has it, and demand 3 of two.
 use Prim.Native.Nat.{ℕ}
-use mathlib.Core.Path.{_≡_, sym, subst}
+use mathlib.Core.Path.{_≡_}
 use mathlib.Core.List.{List}
-use lib.ListN.{length}
-use Rattle.layout.specs.Chain.{scnOf}
-use Rattle.layout.specs.Reading.{RasterNumbers, rasterRejection, rasterReading, pixelsAfter, marksAfter}
-use Rattle.raster.specs.declared.RasterAnswer.{RasterAnswer}
-use Rattle.raster.specs.Answer.{rasterNumbers}
-use Rattle.isolation.specs.Statement.{ChangedInBodies, Isolated}
-use Rattle.isolation.specs.Law.{isolated}
+use Rattle.layout.specs.Reading.{rasterReading, pixelsAfter, marksAfter}
+use Rattle.decode_raster.specs.declared.RasterAnswer.{RasterAnswer}
+use Rattle.decode_raster.specs.Answer.{rasterNumbers}
 
 pub record ReadingOf (f pixels marks : List ℕ) (r : RasterAnswer) (pixels′ marks′ : List ℕ) : Type 0 where
   pub answer : rasterNumbers r ≡ rasterReading f pixels marks
   pub pixels-are : pixels′ ≡ pixelsAfter f pixels marks
   pub marks-are : marks′ ≡ marksAfter f pixels marks
-
-pub two-calls : (f pixels₁ marks₁ : List ℕ) (r₁ : RasterAnswer) (pixels₁′ marks₁′ : List ℕ)
-    (g pixels₂ marks₂ : List ℕ) (r₂ : RasterAnswer) (pixels₂′ marks₂′ : List ℕ)
-    → ReadingOf f pixels₁ marks₁ r₁ pixels₁′ marks₁′
-    → ReadingOf g pixels₂ marks₂ r₂ pixels₂′ marks₂′
-    → scnOf f ≡ 1
-    → rasterRejection f (length pixels₁) (length marks₁) ≡ 0
-    → ChangedInBodies f g
-    → Isolated f g (length pixels₂) (length marks₂) (rasterNumbers r₁) pixels₁′ marks₁′ (rasterNumbers r₂) pixels₂′ marks₂′
-two-calls f pixels₁ marks₁ r₁ pixels₁′ marks₁′ g pixels₂ marks₂ r₂ pixels₂′ marks₂′ a b one taken changed =
-    rw (a .answer, a .pixels-are, a .marks-are, b .answer, b .pixels-are, b .marks-are)
-    (isolated f g pixels₁ marks₁ pixels₂ marks₂ one taken changed)

@@ -5,11 +5,11 @@ ghost use mathlib.Core.Path.{_≡_};
 ghost use lib.ListN.{length};
 ghost use Rattle.layout.specs.Chain.{scnOf};
 ghost use Rattle.layout.specs.Reading.{rasterRejection};
-ghost use Rattle.raster.specs.Answer.{rasterNumbers};
+ghost use Rattle.decode_raster.specs.Answer.{rasterNumbers};
 ghost use Rattle.isolation.specs.Statement.{ChangedInBodies, Isolated};
 ghost use Rattle.two_readings.specs.Call.{ReadingOf};
-use raster::RasterAnswer;
-use raster::read_raster;
+use decode_raster::RasterAnswer;
+use decode_raster::read_raster;
 
 pub struct TwoAnswers {
     pub first: RasterAnswer,

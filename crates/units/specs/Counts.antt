@@ -1,5 +1,5 @@
 -- The conversions between counts of blocks (512 bytes), words (16 bits) and bytes, each stated once.
-use Prim.Native.Nat.{ℕ, _*_}
+use Prim.Native.Nat.{_*_}
 use Rattle.units.specs.declared.Blocks.{Blocks}
 use Rattle.units.specs.declared.Words.{Words}
 use Rattle.units.specs.declared.Bytes.{Bytes}

@@ -1,28 +1,8 @@
 -- The answer at the first index of a range that is hit, or another where none is. `scan hit answer none i k` goes over
 -- the k indices from i on.
-use Prim.Native.Nat.{ℕ, zero, suc, _+_, _-_, _≤_, _<_}
-use mathlib.Core.Path.{_≡_, refl, ap, sym, _∙_}
-use mathlib.Core.Bool.{Bool, true, false, cond}
-use native.Mathlib.Omega.{arith}
-use native.Mathlib.Numerals.{add-one}
+use Prim.Native.Nat.{ℕ, zero, suc}
+use mathlib.Core.Bool.{Bool, cond}
 
 unfoldable pub scan : {A : Type 0} → (ℕ → Bool) → (ℕ → A) → A → ℕ → ℕ → A
 scan hit answer none i zero = none
 scan hit answer none i (suc k) = cond (hit i) (answer i) (scan hit answer none (suc i) k)
-
--- what is left of a range from i to n, at its end and one step on
-module _ {A : Type 0} (hit : ℕ → Bool) (answer : ℕ → A) (none : A) (i n : ℕ) where
-  pub scan-end : n ≤ i → scan hit answer none i (n - i) ≡ none
-  unfolding scan
-  scan-end h = rw (let z : n - i ≡ 0 = omega arith in z)
-
-  left : i < n → n - i ≡ suc (n - (i + 1))
-  left h = omega arith
-
-  pub scan-hit : i < n → hit i ≡ true → scan hit answer none i (n - i) ≡ answer i
-  unfolding scan
-  scan-hit h t = rw (left h, t)
-
-  pub scan-miss : i < n → hit i ≡ false → scan hit answer none i (n - i) ≡ scan hit answer none (i + 1) (n - (i + 1))
-  unfolding scan
-  scan-miss h t = rw (left h, t) (ap (λ (j : ℕ). scan hit answer none j (n - (i + 1))) (sym (add-one i)))

@@ -4,8 +4,8 @@
 // the color table, the number of pixels, the room of the output, and the byte that the output holds before the call;
 // then the table, then the pixels, two bytes each. Prints `refused N` or `written LENGTH` and then the whole output as it
 // is after the call; `too long` or `short` where the input is.
-use encode::WriteAnswer;
-use encode::write_raster;
+use encode_raster::WriteAnswer;
+use encode_raster::write_raster;
 use libc::STDIN_FILENO;
 use libc::STDOUT_FILENO;
 use text::put;
@@ -64,7 +64,7 @@ fn run_within(input: &[u8], pixels: &mut [u16], out: &mut [u8]) {
         io::write_all(STDOUT_FILENO, b"short\n");
         return;
     }
-    bodies::take_words(&input[from..], pixels);
+    decode_body::take_words(&input[from..], pixels);
     fill_bytes(out, (u32_at(input, 36) % 256) as u8);
     write_given(input, &input[40..from], pixels, out);
 }

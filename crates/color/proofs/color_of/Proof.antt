@@ -5,7 +5,7 @@ use Prim.Native.Nat.{ℕ, _≤_}
 use mathlib.Core.Path.{_≡_, sym, _∙_, ap}
 use borrow.Author.Needs.{needs}
 use Rattle.color.specs.Color.{ColorNumbers, colorReading, noColor, grayColor, igdsColor, environColor}
-use Rattle.header.specs.Accepted.{Accepted, accepted}
+use Rattle.header.specs.laws.Accepted.{Accepted, accepted}
 use Rattle.header.specs.Rejections.{rejection}
 use Rattle.header.specs.Fields.{fieldsOf}
 use Rattle.header.specs.declared.fields.Fields.{Fields}

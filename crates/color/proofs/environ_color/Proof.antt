@@ -5,7 +5,8 @@ use Prim.Native.Nat.{ℕ, _-_}
 use mathlib.Core.Path.{_≡_, refl, sym, _∙_}
 use Rattle.color.specs.Color.{environColor, entryColor, noColor}
 use Rattle.header.specs.Rejections.{slotAt}
-use Rattle.units.specs.Scan.{scan, scan-hit, scan-miss, scan-end}
+use Rattle.units.specs.Scan.{scan}
+use Rattle.units.specs.laws.Scan.{scan-hit, scan-miss, scan-end}
 use Rattle.color.proofs.environ_color.Statement.{statement}
 use Rattle.color.proofs.environ_color.Tie as tie
 

@@ -4,9 +4,10 @@ use native.Mathlib.Omega.{arith}
 use Prim.Native.Nat.{_≤_}
 use mathlib.Core.Path.{_≡_, refl, sym, _∙_, ap}
 use borrow.Author.Needs.{needs}
-use Rattle.round_trip.specs.Call.{BothCalls, number-is, size-fits, length-after, given-back}
-use Rattle.encode.specs.Answer.{picture}
-use Rattle.encode.specs.Picture.{Picture}
+use Rattle.round_trip.specs.Call.{BothCalls}
+use Rattle.round_trip.specs.laws.Call.{number-is, size-fits, length-after, given-back}
+use Rattle.encode_raster.specs.Answer.{picture}
+use Rattle.encode_raster.specs.Picture.{Picture}
 use Rattle.round_trip.proofs.write_and_read.Statement.{statement}
 use Rattle.round_trip.proofs.write_and_read.Tie as tie
 

@@ -1,5 +1,6 @@
 use borrow.Author.Needs.{needs}
-use Rattle.two_readings.specs.Call.{ReadingOf, two-calls}
+use Rattle.two_readings.specs.Call.{ReadingOf}
+use Rattle.two_readings.specs.laws.Call.{two-calls}
 use Rattle.two_readings.proofs.read_two.Statement.{statement}
 use Rattle.two_readings.proofs.read_two.Tie as tie
 

@@ -3,42 +3,43 @@ use mathlib.Core.List.{List, _++_}
 use Prim.Native.Nat.{ℕ}
 use mathlib.Core.Path.{_≡_, sym, _∙_, ap}
 use borrow.Author.Needs.{needs}
-use Rattle.header.specs.Rejections.{rejection, frameRows, fieldRows, tableRows}
+use Rattle.header.specs.Rejections.{rejection, frameRules, limitRules, colorTableRules}
 use Rattle.header.specs.Fields.{fieldsOf}
 use Rattle.header.specs.declared.fields.Fields.{Fields}
-use Rattle.units.specs.Rows.{first, first-here, first-later}
+use Rattle.units.specs.Rules.{first}
+use Rattle.units.specs.laws.Rules.{first-here, first-later}
 use Rattle.header.proofs.rejection.rejection_of.Statement.{statement}
 use Rattle.header.proofs.rejection.rejection_of.Tie as tie
 
 -- The number is that of the first part of the table that has one.
-module _ (f : List ℕ) {h : Fields} {n : ℕ} (read : h ≡ fieldsOf f) (frame : n ≡ first (frameRows (length f) h)) where
-  frame-is : n ≡ first (frameRows (length f) (fieldsOf f))
-  frame-is = frame ∙ ap (λ (x : Fields). first (frameRows (length f) x)) read
+module _ (f : List ℕ) {h : Fields} {n : ℕ} (read : h ≡ fieldsOf f) (frame : n ≡ first (frameRules (length f) h)) where
+  frame-is : n ≡ first (frameRules (length f) (fieldsOf f))
+  frame-is = frame ∙ ap (λ (x : Fields). first (frameRules (length f) x)) read
 
   rejected-by-frame : (n ≡ 0 → ⊥) → n ≡ rejection f
   unfolding rejection
   rejected-by-frame some =
       frame-is
-      ∙ sym (first-here (frameRows (length f) (fieldsOf f)) (fieldRows (fieldsOf f) ++ tableRows f (fieldsOf f)) (λ z. some (frame-is ∙ z)))
+      ∙ sym (first-here (frameRules (length f) (fieldsOf f)) (limitRules (fieldsOf f) ++ colorTableRules f (fieldsOf f)) (λ z. some (frame-is ∙ z)))
 
-  module _ (none : n ≡ 0) {m : ℕ} (field : m ≡ first (fieldRows h)) where
-    field-is : m ≡ first (fieldRows (fieldsOf f))
-    field-is = field ∙ ap (λ (x : Fields). first (fieldRows x)) read
+  module _ (none : n ≡ 0) {m : ℕ} (field : m ≡ first (limitRules h)) where
+    field-is : m ≡ first (limitRules (fieldsOf f))
+    field-is = field ∙ ap (λ (x : Fields). first (limitRules x)) read
 
-    past-frame : rejection f ≡ first (fieldRows (fieldsOf f) ++ tableRows f (fieldsOf f))
+    past-frame : rejection f ≡ first (limitRules (fieldsOf f) ++ colorTableRules f (fieldsOf f))
     unfolding rejection
     past-frame =
-        first-later (frameRows (length f) (fieldsOf f)) (fieldRows (fieldsOf f) ++ tableRows f (fieldsOf f)) tt (sym frame-is ∙ none)
+        first-later (frameRules (length f) (fieldsOf f)) (limitRules (fieldsOf f) ++ colorTableRules f (fieldsOf f)) tt (sym frame-is ∙ none)
 
     rejected-by-field : (m ≡ 0 → ⊥) → m ≡ rejection f
     rejected-by-field some =
         field-is
-        ∙ sym (past-frame ∙ first-here (fieldRows (fieldsOf f)) (tableRows f (fieldsOf f)) (λ z. some (field-is ∙ z)))
+        ∙ sym (past-frame ∙ first-here (limitRules (fieldsOf f)) (colorTableRules f (fieldsOf f)) (λ z. some (field-is ∙ z)))
 
-    rejected-by-table : m ≡ 0 → {k : ℕ} → k ≡ first (tableRows f h) → k ≡ rejection f
+    rejected-by-table : m ≡ 0 → {k : ℕ} → k ≡ first (colorTableRules f h) → k ≡ rejection f
     rejected-by-table none₂ table =
-        (table ∙ ap (λ (x : Fields). first (tableRows f x)) read)
-        ∙ sym (past-frame ∙ first-later (fieldRows (fieldsOf f)) (tableRows f (fieldsOf f)) tt (sym field-is ∙ none₂))
+        (table ∙ ap (λ (x : Fields). first (colorTableRules f x)) read)
+        ∙ sym (past-frame ∙ first-later (limitRules (fieldsOf f)) (colorTableRules f (fieldsOf f)) tt (sym field-is ∙ none₂))
 
 fields-of-requires : tie.Need-fields-of-requires
 fields-of-requires c κs = search needs

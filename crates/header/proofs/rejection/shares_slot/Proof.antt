@@ -3,7 +3,8 @@ use mathlib.Core.Bool.{true, false}
 use borrow.Author.Needs.{needs}
 use Prim.Native.Nat.{ℕ, _+_, _-_}
 use Rattle.header.specs.Rejections.{slotAt, slotOccurs, sharesSlot}
-use Rattle.units.specs.Scan.{scan, scan-hit, scan-miss, scan-end}
+use Rattle.units.specs.Scan.{scan}
+use Rattle.units.specs.laws.Scan.{scan-hit, scan-miss, scan-end}
 use Rattle.header.proofs.rejection.shares_slot.Statement.{statement}
 use Rattle.header.proofs.rejection.shares_slot.Tie as tie
 

@@ -5,7 +5,7 @@ use borrow.Author.Tests.{eq-eqb, ne-eqb}
 use borrow.Author.Needs.{needs}
 use Prim.Native.Nat.{ℕ, _-_}
 use Rattle.header.specs.Rejections.{slotAt, slotOccurs}
-use Rattle.units.specs.Scan.{scan-hit, scan-miss, scan-end}
+use Rattle.units.specs.laws.Scan.{scan-hit, scan-miss, scan-end}
 use Rattle.header.proofs.rejection.slot_occurs.Statement.{statement}
 use Rattle.header.proofs.rejection.slot_occurs.Tie as tie
 

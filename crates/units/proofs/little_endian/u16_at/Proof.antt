@@ -1,6 +1,7 @@
 use borrow.Author.Needs.{needs}
 use mathlib.Core.Path.{sym}
-use Rattle.units.specs.LittleEndian.{u16At, u16At-past}
+use Rattle.units.specs.LittleEndian.{u16At}
+use Rattle.units.specs.laws.LittleEndian.{u16At-past}
 use Rattle.units.proofs.little_endian.u16_at.Statement.{statement}
 use Rattle.units.proofs.little_endian.u16_at.Tie as tie
 

@@ -1,6 +1,7 @@
 use borrow.Author.Needs.{needs}
 use mathlib.Core.Path.{sym}
-use Rattle.units.specs.LittleEndian.{u32At, u32At-past}
+use Rattle.units.specs.LittleEndian.{u32At}
+use Rattle.units.specs.laws.LittleEndian.{u32At-past}
 use Rattle.units.proofs.little_endian.u32_at.Statement.{statement}
 use Rattle.units.proofs.little_endian.u32_at.Tie as tie
 

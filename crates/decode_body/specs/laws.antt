@@ -1,0 +1,3 @@
+pub mod Copy
+pub mod Pairs
+pub mod Runs

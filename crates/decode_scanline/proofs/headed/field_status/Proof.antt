@@ -1,0 +1,44 @@
+use native.Mathlib.Omega.{arith}
+use mathlib.Core.Path.{sym, _∙_}
+use borrow.Author.Tests.{eq-eqb, ne-eqb}
+use borrow.Author.Needs.{needs}
+use Rattle.layout.specs.laws.Line.{head-word}
+use Rattle.decode_scanline.proofs.headed.field_status.Statement.{statement}
+use Rattle.decode_scanline.proofs.headed.field_status.Tie as tie
+
+u16-at-requires : tie.Need-u16-at-requires
+u16-at-requires c κs = search needs
+
+returns : tie.Need-returns
+returns c =
+    let f = c .before .before .before .args .rest .now in
+    simp (head-word f 4 (omega arith), ne-eqb _ _ (λ q. c .if1 .taken (c .before .u16-at .ensures ∙ q)))
+
+u16-at-requires-2 : tie.Need-u16-at-requires-2
+u16-at-requires-2 c κs = search needs
+
+returns-2 : tie.Need-returns-2
+returns-2 c =
+    let d = c .before .before in
+    let f = d .before .before .before .args .rest .now in
+    simp (
+      head-word f 4 (omega arith),
+      eq-eqb _ _ (sym (d .before .u16-at .ensures) ∙ d .if1 .left),
+      head-word f 6 (omega arith),
+      ne-eqb _ _ (λ q. c .if2 .taken (c .before .u16-at2 .ensures ∙ q)),
+    )
+
+returns-3 : tie.Need-returns-3
+returns-3 c =
+    let d = c .before .before in
+    let f = d .before .before .before .args .rest .now in
+    simp (
+      head-word f 4 (omega arith),
+      eq-eqb _ _ (sym (d .before .u16-at .ensures) ∙ d .if1 .left),
+      head-word f 6 (omega arith),
+      eq-eqb _ _ (sym (c .before .u16-at2 .ensures) ∙ c .if2 .left),
+    )
+
+pub field-status-spec : {M : Type 1} → statement M
+field-status-spec =
+    tie.close (tie.spec u16-at-requires returns u16-at-requires-2 returns-2 returns-3)

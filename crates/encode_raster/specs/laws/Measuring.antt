@@ -1,0 +1,57 @@
+-- The loop that measures the scanlines: what holds before scanline k, from turn to turn and at its end.
+use Prim.Native.Nat.{ℕ, _+_, _-_, _*_, _/_, _^_, _≤_, _<_, zero-le}
+use mathlib.Core.Path.{_≡_, refl, sym, _∙_, ap, subst⁻¹}
+use mathlib.Core.Bool.{Bool, false, _||_}
+use mathlib.Core.List.{List}
+use native.Mathlib.Numerals.{add-one}
+use native.Mathlib.Omega.{arith}
+use lib.ListN.{length, take, drop}
+use lib.Dec.{ltb}
+use Rattle.encode_raster.specs.Picture.{Picture, rowAt}
+use Rattle.encode_raster.specs.File.{bodyBytes, linesOf}
+use Rattle.encode_raster.specs.Writing.{anyLong}
+use Rattle.encode_raster.specs.laws.Answer.{headSize, Measured}
+use Rattle.encode_raster.specs.laws.Bounds.{length-next, lines-most}
+use Rattle.encode_raster.specs.laws.Parts.{row-is}
+
+pub record MeasuredAt (i : Picture) (size : ℕ) (long : Bool) (k : ℕ) : Type 0 where
+  pub low : k ≤ i .nol
+  pub size-is : size ≡ length (linesOf i k)
+  pub long-is : long ≡ anyLong i k
+
+pub measure-first : (i : Picture) → MeasuredAt i 0 false 0
+unfolding linesOf anyLong
+measure-first i = record { low = zero-le; size-is = refl; long-is = refl }
+
+pub measure-next : (i : Picture) (size : ℕ) (long : Bool) (k : ℕ) → MeasuredAt i size long k → k < i .nol
+    → (head body : ℕ) (long′ : Bool) → head ≡ headSize (i .scn)
+    → body ≡ length (bodyBytes (i .dtc) (i .scn) (take (k * i .ppl + i .ppl - k * i .ppl) (drop (k * i .ppl) (i .pixels))))
+    → long′ ≡ (long || ltb 65533 (body / 2))
+    → MeasuredAt i (size + (head + body)) long′ (k + 1)
+unfolding anyLong
+measure-next i size long k now more head body long′ h b l =
+    let e : body ≡ length (bodyBytes (i .dtc) (i .scn) (rowAt i k)) =
+    b ∙ ap (λ (r : List ℕ). length (bodyBytes (i .dtc) (i .scn) r)) (row-is k (i .ppl) (i .pixels)) in
+    subst⁻¹ (λ (n : ℕ). MeasuredAt i (size + (head + body)) long′ n) (add-one k)
+    (record {
+      low = more;
+      size-is = (λ j. now .size-is j + (h j + e j)) ∙ sym (length-next i k);
+      long-is = l ∙ (λ j. now .long-is j || ltb 65533 (e j / 2));
+    })
+
+-- the sum fits
+pub measure-fits : (i : Picture) (size : ℕ) (long : Bool) (k : ℕ) → MeasuredAt i size long k → k < i .nol → i .ppl ≤ 65535 → i .nol ≤ 65535
+    → (head body : ℕ) → head ≡ headSize (i .scn)
+    → body ≡ length (bodyBytes (i .dtc) (i .scn) (take (k * i .ppl + i .ppl - k * i .ppl) (drop (k * i .ppl) (i .pixels))))
+    → size + (head + body) < 2 ^ 64
+measure-fits i size long k now more p n head body h b =
+    let m = measure-next i size long k now more head body (long || ltb 65533 (body / 2)) h b refl in
+    omega (arith, m .size-is, lines-most i p (k + 1))
+
+pub measure-done : (i : Picture) (n size : ℕ) (long : Bool) (k : ℕ) → MeasuredAt i size long k → k ≡ n
+    → Measured i n (record { size = size; long = long })
+measure-done i n size long k now e =
+    record {
+      size = now .size-is ∙ ap (λ (m : ℕ). length (linesOf i m)) e;
+      long = now .long-is ∙ ap (λ (m : ℕ). anyLong i m) e;
+    }

@@ -1,0 +1,62 @@
+-- Two files with the same bytes below their raster data have the same header and the same rejections.
+use Prim.Native.Nat.{ℕ, _+_, _-_, _≤_, _<_}
+use mathlib.Core.Path.{_≡_, refl, ap, _∙_}
+use mathlib.Core.Bool.{Bool, true, false, _&&_}
+use mathlib.Core.List.{List, _++_}
+use native.Mathlib.Omega.{arith}
+use lib.ListN.{length, getD}
+use lib.Dec.{eqb}
+use borrow.Author.Tests.{eqb-true}
+use Rattle.header.specs.declared.fields.Fields.{Fields}
+use Rattle.header.specs.Fields.{fieldsOf}
+use Rattle.header.specs.Rejections.{slotAt, entryStart, slotOccurs, sharesSlot, frameRules, limitRules, colorTableRules, rejections}
+use Rattle.isolation.specs.laws.Same.{same-u16, same-u32, same-scan}
+
+same-and : (t a b : Bool) → (t ≡ true → a ≡ b) → (t && a) ≡ (t && b)
+same-and true a b h = h refl
+same-and false a b h = refl
+
+module _ (g f : List ℕ) (n : ℕ) (same : (i : ℕ) → i < n → getD g i 0 ≡ getD f i 0) where
+  pub same-fields : 1024 ≤ n → fieldsOf g ≡ fieldsOf f
+  same-fields h =
+      let w = same-u16 g f n same in
+      let d = same-u32 g f n same in
+      λ i.
+      record {
+        htc = w 0 (omega arith) i;
+        wtf = w 2 (omega arith) i;
+        dtc = w 4 (omega arith) i;
+        ppl = d 184 (omega arith) i;
+        nol = d 188 (omega arith) i;
+        drs = w 192 (omega arith) i;
+        slo = same 194 (omega arith) i;
+        scn = same 195 (omega arith) i;
+        ver = same 511 (omega arith) i;
+        ctv = w 532 (omega arith) i;
+        cte = d 536 (omega arith) i;
+      }
+
+  same-slot : (j m : ℕ) → entryStart m ≤ n → j < m → slotAt g j ≡ slotAt f j
+  same-slot j m h l = same-u16 g f n same (entryStart j) (omega arith)
+
+  same-occurs : (slot i m : ℕ) → entryStart m ≤ n → slotOccurs g slot i m ≡ slotOccurs f slot i m
+  unfolding slotOccurs
+  same-occurs slot i m h =
+      same-scan (λ j. eqb (slotAt g j) slot) (λ j. eqb (slotAt f j) slot) (λ j. true) false i (m - i)
+      (λ j l u. rw (same-slot j m h (omega arith)))
+
+  same-shares : (m : ℕ) → entryStart m ≤ n → sharesSlot g m ≡ sharesSlot f m
+  unfolding sharesSlot
+  same-shares m h =
+      same-scan (λ i. slotOccurs g (slotAt g i) (i + 1) m) (λ i. slotOccurs f (slotAt f i) (i + 1) m) (λ i. true) false 0 (m - 0)
+      (λ j l u. rw (same-slot j m h (omega arith), same-occurs (slotAt f j) (j + 1) m h))
+
+  pub same-rejections : 1024 ≤ n → (fieldsOf f .ctv ≡ 2 → entryStart (fieldsOf f .cte) ≤ n) → length g ≡ length f
+      → rejections g ≡ rejections f
+  same-rejections h entries e =
+      ap (λ (x : Fields). frameRules (length g) x ++ (limitRules x ++ colorTableRules g x)) (same-fields h) ∙
+      rw (
+        e,
+        same-and (eqb (fieldsOf f .ctv) 2) (sharesSlot g (fieldsOf f .cte)) (sharesSlot f (fieldsOf f .cte))
+            (λ t. same-shares (fieldsOf f .cte) (entries (eqb-true (fieldsOf f .ctv) 2 t))),
+      )

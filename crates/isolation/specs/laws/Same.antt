@@ -1,0 +1,51 @@
+-- Lists of bytes that agree in places, and tables one after the other.
+use Prim.Native.Nat.{ℕ, zero, suc, _+_, _≤_, _<_}
+use mathlib.Core.Path.{_≡_, refl, sym, _∙_}
+use mathlib.Core.Bool.{Bool, true, false}
+use mathlib.Core.List.{List, _++_}
+use native.Mathlib.Omega.{arith}
+use lib.ListN.{length, getD, take, drop, length-take, length-drop}
+use lib.Seq.{ext-getD, getD-take, getD-drop}
+use lib.Dec.{eqb}
+use borrow.Author.Tests.{eqb-true, eqb-false}
+use Rattle.units.specs.LittleEndian.{u16At, u32At}
+use Rattle.units.specs.Rules.{Rule, first}
+use Rattle.units.specs.laws.Rules.{first-here}
+use Rattle.units.specs.Scan.{scan}
+
+-- n bytes from s on
+pub same-window : (a b : List ℕ) (s n : ℕ) → length a ≡ length b → ((i : ℕ) → s ≤ i → i < s + n → getD a i 0 ≡ getD b i 0)
+    → take n (drop s a) ≡ take n (drop s b)
+same-window a b s n e h =
+    ext-getD 0 (take n (drop s a)) (take n (drop s b)) (simp (length-take, length-drop, e))
+    (λ i l.
+    let m : i < n = omega (arith, length-take n (drop s a)) in
+    let low : s ≤ s + i = omega arith in
+    let high : s + i < s + n = omega arith in
+    rw (getD-take n (drop s a) i 0 m, getD-take n (drop s b) i 0 m, getD-drop s a i 0, getD-drop s b i 0) (h (s + i) low high))
+
+-- the numbers that lie below byte n
+module _ (a b : List ℕ) (n : ℕ) (same : (i : ℕ) → i < n → getD a i 0 ≡ getD b i 0) where
+  pub same-u16 : (at : ℕ) → at + 2 ≤ n → u16At a at ≡ u16At b at
+  unfolding u16At
+  same-u16 at h = rw (same at (omega arith), same (at + 1) (omega arith))
+
+  pub same-u32 : (at : ℕ) → at + 4 ≤ n → u32At a at ≡ u32At b at
+  unfolding u32At
+  same-u32 at h = rw (same-u16 at (omega arith), same-u16 (at + 2) (omega arith))
+
+-- scans over the same hits
+pub same-scan : {A : Type 0} (hit other : ℕ → Bool) (answer : ℕ → A) (none : A) (i k : ℕ)
+    → ((j : ℕ) → i ≤ j → j < i + k → hit j ≡ other j) → scan hit answer none i k ≡ scan other answer none i k
+unfolding scan
+same-scan hit other answer none i zero h = refl
+same-scan hit other answer none i (suc k) h =
+    rw (h i (omega arith) (omega arith), same-scan hit other answer none (suc i) k (λ j l u. h j (omega arith) (omega arith)))
+
+-- no test of two tables holds, so none of the first one does
+pub first-none : (a b : List Rule) → first (a ++ b) ≡ 0 → first a ≡ 0
+first-none a b h = go (eqb (first a) 0) refl
+  where
+    go : (t : Bool) → eqb (first a) 0 ≡ t → first a ≡ 0
+    go true e = eqb-true (first a) 0 e
+    go false e = sym (first-here a b (eqb-false (first a) 0 e)) ∙ h

@@ -1,0 +1,274 @@
+-- Laws of one scanline: its header, where it is lost, its status, the row's length and the bytes that it uses.
+use Prim.Native.Nat.{ℕ, _+_, _-_, _%_, _≤_, _<_}
+use mathlib.Core.Path.{_≡_, refl, _∙_, ap}
+use mathlib.Core.Bool.{Bool, true, false, cond}
+use mathlib.Core.List.{List, [], _∷_, _++_}
+use native.Mathlib.Omega.{arith}
+use lib.ListN.{length, take, drop, replicate, length-append, length-take, length-drop, length-replicate}
+use lib.Seq.{getD-take, length-take-le}
+use lib.Dec.{eqb, ltb}
+use borrow.Author.Tests.{lt-ltb, le-ltb, eq-eqb, ne-eqb, ltb-false, eqb-true, not-false}
+use Rattle.units.specs.LittleEndian.{byteAt, u16At}
+use Rattle.units.specs.Rules.{rule, first}
+use Rattle.units.specs.laws.Rules.{NoneHolds, none-holds, first-here, first-later, both-none}
+use Rattle.units.specs.Words.{words, wordCount, wordBytes}
+use Rattle.units.specs.laws.Words.{length-words}
+use Rattle.decode_body.specs.Pixels.{bytePixels, wordPixels, runPixels, pairPixels, pairTotal}
+use Rattle.decode_body.specs.Statuses.{byteRules, wordRules, runRules, pairRules, rowOf}
+use Rattle.decode_body.specs.Extents.{ExtentNumbers, taken, fault, byteExtent, wordExtent, runExtent, pairExtent}
+use Rattle.decode_body.specs.laws.Copy.{words-taken}
+use Rattle.decode_body.specs.laws.Runs.{length-runPixels, status-total, extent-within, extent-total}
+use Rattle.decode_body.specs.laws.Pairs.{pairs-fit, pairs-taken}
+use Rattle.layout.specs.Scanline.{bodyRules, bodyPixels, bodyExtent, headOf, following, bodySize, headRules, bodyOf, lostRules, placementRules, reading, isLost, openLost, headedLine, openLine, lineOf}
+
+-- the header's fields, where they stand in the bytes that are left
+module _ (rest : List ℕ) where
+  pub head-byte : (i : ℕ) → i < 8 → byteAt (headOf rest) i ≡ byteAt rest i
+  unfolding headOf
+  head-byte i h = getD-take 8 rest i 0 h
+
+  pub head-word : (i : ℕ) → i + 1 < 8 → u16At (headOf rest) i ≡ u16At rest i
+  unfolding headOf u16At
+  head-word i h = rw (getD-take 8 rest i 0 (omega arith), getD-take 8 rest (i + 1) 0 h)
+
+  head-short : length rest < 8 → length (headOf rest) < 8
+  unfolding headOf
+  head-short h = rw (length-take 8 rest) (omega arith)
+
+  head-whole : 8 ≤ length rest → 8 ≤ length (headOf rest)
+  unfolding headOf
+  head-whole h = rw (length-take 8 rest) (omega arith)
+
+  rest-whole : 8 ≤ length (headOf rest) → 8 ≤ length rest
+  unfolding headOf
+  rest-whole h = omega (arith, length-take 8 rest)
+
+  body-is : first (headRules (headOf rest)) ≡ 0 → bodyOf rest ≡ take (bodySize (headOf rest)) (drop 8 rest)
+  unfolding bodyOf
+  body-is h = rw (eq-eqb (first (headRules (headOf rest))) 0 h)
+
+-- how a scanline is lost, by the tests in their order
+module _ (rest : List ℕ) where
+  abbrev pub lostBy : ℕ
+  lostBy = first (lostRules (headOf rest) (bodyOf rest))
+
+  pub lost-short : length rest < 8 → lostBy ≡ 1
+  lost-short h = simp (lt-ltb _ _ (head-short rest h))
+
+  module _ (whole : 8 ≤ length rest) where
+    pub lost-identifier : (byteAt rest 1 ≡ 0x59 → ⊥) → lostBy ≡ 2
+    lost-identifier h = simp (le-ltb _ _ (head-whole rest whole), head-byte rest 1 (omega arith), ne-eqb _ _ h)
+
+    module _ (right : byteAt rest 1 ≡ 0x59) where
+      pub lost-following : u16At rest 2 < 2 → lostBy ≡ 3
+      lost-following h =
+          simp (le-ltb _ _ (head-whole rest whole), head-byte rest 1 (omega arith), eq-eqb _ _ right, head-word rest 2 (omega arith), lt-ltb _ _ h)
+
+      module _ (enough : 2 ≤ u16At rest 2) where
+        head-good : first (headRules (headOf rest)) ≡ 0
+        head-good =
+            simp (le-ltb _ _ (head-whole rest whole), head-byte rest 1 (omega arith), eq-eqb _ _ right, head-word rest 2 (omega arith), le-ltb _ _ enough)
+
+        length-body : length (bodyOf rest) ≡ length (take (bodySize (headOf rest)) (drop 8 rest))
+        length-body = ap length (body-is rest head-good)
+
+        by-body : lostBy ≡ first (rule 1 (ltb (length (bodyOf rest)) (bodySize (headOf rest))) ∷ [])
+        by-body = first-later (headRules (headOf rest)) (rule 1 (ltb (length (bodyOf rest)) (bodySize (headOf rest))) ∷ []) tt head-good
+
+        pub lost-body : length rest < 4 + wordBytes (u16At rest 2) → lostBy ≡ 1
+        lost-body h =
+            let n : length (bodyOf rest) < bodySize (headOf rest) =
+            omega (arith, head-word rest 2 (omega arith), length-body, length-take (bodySize (headOf rest)) (drop 8 rest), length-drop 8 rest) in
+            by-body ∙ simp (lt-ltb _ _ n)
+
+        pub lost-not : 4 + wordBytes (u16At rest 2) ≤ length rest → lostBy ≡ 0
+        lost-not h =
+            let n : bodySize (headOf rest) ≤ length (bodyOf rest) =
+            omega (arith, head-word rest 2 (omega arith), length-body, length-take (bodySize (headOf rest)) (drop 8 rest), length-drop 8 rest) in
+            by-body ∙ simp (le-ltb _ _ n)
+
+-- what holds of a scanline with a header that is not lost
+pub record NotLost (rest : List ℕ) : Type 0 where
+  pub whole : 8 ≤ length rest
+  pub words : 2 ≤ following (headOf rest)
+  pub within : 4 + wordBytes (following (headOf rest)) ≤ length rest
+  pub size : 4 + wordBytes (following (headOf rest)) ≡ 8 + length (bodyOf rest)
+  pub body : bodyOf rest ≡ take (4 + wordBytes (following (headOf rest)) - 8) (drop 8 rest)
+
+pub not-lost : (rest : List ℕ) → lostBy rest ≡ 0 → NotLost rest
+not-lost rest e =
+    let hd = headOf rest in
+    let r : NoneHolds (lostRules hd (bodyOf rest)) = none-holds (lostRules hd (bodyOf rest)) tt e in
+    let good : first (headRules hd) ≡ 0 = simp (r .0, r .1 .0, r .1 .1 .0) in
+    let b : bodyOf rest ≡ take (bodySize hd) (drop 8 rest) = body-is rest good in
+    let full : bodySize hd ≤ length (bodyOf rest) = ltb-false (length (bodyOf rest)) (bodySize hd) (r .1 .1 .1 .0) in
+    let l : 8 ≤ length rest = rest-whole rest (ltb-false (length hd) 8 (r .0)) in
+    let w : 2 ≤ following hd = ltb-false (following hd) 2 (r .1 .1 .0) in
+    let n : bodySize hd ≡ 4 + wordBytes (following hd) - 8 = omega arith in
+    let s : length (bodyOf rest) ≡ length (take (bodySize hd) (drop 8 rest)) = ap length b in
+    record {
+      whole = l;
+      words = w;
+      within = omega (arith, length-take (bodySize hd) (drop 8 rest), length-drop 8 rest);
+      size = omega (arith, length-take (bodySize hd) (drop 8 rest), length-drop 8 rest);
+      body = rw n at b;
+    }
+
+-- whether it is lost
+pub is-lost : (rest : List ℕ) → (lostBy rest ≡ 0 → ⊥) → isLost rest ≡ true
+unfolding isLost
+is-lost rest h = rw (ne-eqb (lostBy rest) 0 h)
+
+pub is-not-lost : (rest : List ℕ) → lostBy rest ≡ 0 → isLost rest ≡ false
+unfolding isLost
+is-not-lost rest h = rw (eq-eqb (lostBy rest) 0 h)
+
+pub kept : (rest : List ℕ) → isLost rest ≡ false → NotLost rest
+unfolding isLost
+kept rest h = not-lost rest (eqb-true (lostBy rest) 0 (not-false (eqb (lostBy rest) 0) h))
+
+-- and without a header
+module _ (t p : ℕ) (rest : List ℕ) where
+  pub open-lost : (bodyExtent t rest p .status ≡ 0 → ⊥) → openLost t p rest ≡ true
+  unfolding openLost
+  open-lost h = rw (ne-eqb (bodyExtent t rest p .status) 0 h)
+
+  pub open-not-lost : bodyExtent t rest p .status ≡ 0 → openLost t p rest ≡ false
+  unfolding openLost
+  open-not-lost h = rw (eq-eqb (bodyExtent t rest p .status) 0 h)
+
+  pub open-kept : openLost t p rest ≡ false → bodyExtent t rest p .status ≡ 0
+  unfolding openLost
+  open-kept h = eqb-true (bodyExtent t rest p .status) 0 (not-false (eqb (bodyExtent t rest p .status) 0) h)
+
+-- the status of a scanline with a header: that of the first part of the table that has one
+module _ (t p number : ℕ) (hd body : List ℕ) where
+  pub status-lost : (first (lostRules hd body) ≡ 0 → ⊥) → reading t p number hd body .status ≡ first (lostRules hd body)
+  unfolding reading
+  status-lost some = first-here (lostRules hd body) (placementRules number hd ++ bodyRules t body p) some
+
+  module _ (none : first (lostRules hd body) ≡ 0) where
+    past-lost : reading t p number hd body .status ≡ first (placementRules number hd ++ bodyRules t body p)
+    unfolding reading
+    past-lost = first-later (lostRules hd body) (placementRules number hd ++ bodyRules t body p) tt none
+
+    pub status-field : (first (placementRules number hd) ≡ 0 → ⊥) → reading t p number hd body .status ≡ first (placementRules number hd)
+    status-field some = past-lost ∙ first-here (placementRules number hd) (bodyRules t body p) some
+
+    pub status-body : first (placementRules number hd) ≡ 0 → reading t p number hd body .status ≡ first (bodyRules t body p)
+    status-body none₂ = past-lost ∙ first-later (placementRules number hd) (bodyRules t body p) tt none₂
+
+  pub row-by-status : {n : ℕ} → reading t p number hd body .status ≡ n → reading t p number hd body .row ≡ rowOf n p (bodyPixels t body p)
+  unfolding reading
+  row-by-status e = ap (λ (s : ℕ). rowOf s p (bodyPixels t body p)) e
+
+-- what the status 0 says
+pub record Good (t p number : ℕ) (hd b : List ℕ) : Type 0 where
+  pub frame : first (lostRules hd b) ≡ 0
+  pub fields : first (placementRules number hd) ≡ 0
+  pub body : first (bodyRules t b p) ≡ 0
+
+pub good : (t p number : ℕ) (hd body : List ℕ) → reading t p number hd body .status ≡ 0 → Good t p number hd body
+unfolding reading
+good t p number hd body h =
+    let a = both-none (lostRules hd body) (placementRules number hd ++ bodyRules t body p) tt h in
+    let b = both-none (placementRules number hd) (bodyRules t body p) tt (a .1) in
+    record { frame = a .0; fields = b .0; body = b .1 }
+
+-- a body with the status 0 has as many pixels as the row
+length-pairPixels : (ws : List ℕ) → length (pairPixels ws) ≡ pairTotal ws
+unfolding pairPixels pairTotal
+length-pairPixels [] = refl
+length-pairPixels (v ∷ []) = refl
+length-pairPixels (v ∷ (n ∷ ws)) =
+    rw (length-append (replicate n v) (pairPixels ws), length-replicate n v, length-pairPixels ws)
+
+pub body-pixels : (t p : ℕ) (b : List ℕ) → first (bodyRules t b p) ≡ 0 → length (bodyPixels t b p) ≡ p
+unfolding bodyRules bodyPixels
+body-pixels t p b = by-type (eqb t 2) (eqb t 3) (eqb t 9)
+  where
+    by-type : (x y z : Bool) → first (cond x (byteRules b p) (cond y (wordRules b p) (cond z (runRules b p) (pairRules b p)))) ≡ 0
+        → length (cond x (bytePixels b p) (cond y (wordPixels b p) (cond z (runPixels 0 (words b)) (pairPixels (words b))))) ≡ p
+    by-type true y z h =
+        let n : length b ≡ p + p % 2 = eqb-true (length b) (p + p % 2) (not-false (eqb (length b) (p + p % 2)) (none-holds (byteRules b p) tt h .0)) in
+        length-take-le p b (omega arith)
+    by-type false true z h =
+        let n : wordCount b ≡ p = eqb-true (wordCount b) p (not-false (eqb (wordCount b) p) (none-holds (wordRules b p) tt h .0)) in
+        length-take-le p (words b) (omega (arith, length-words b))
+    by-type false false true h = length-runPixels 0 (words b) ∙ status-total b p h
+    by-type false false false h = length-pairPixels (words b) ∙ pairs-fit b p h
+
+-- without a header: what is taken where there is no fault
+no-fault : (s : Bool) (n : ℕ) → cond s (fault 1) (taken n) .status ≡ 0 → s ≡ false
+no-fault true n h = absurd (omega arith)
+no-fault false n h = refl
+
+pub body-taken : (t p : ℕ) (r : List ℕ) → bodyExtent t r p .status ≡ 0
+    → (bodyExtent t r p .used ≤ length r) × (length (bodyPixels t (take (bodyExtent t r p .used) r) p) ≡ p)
+unfolding bodyExtent bodyPixels
+body-taken t p r = by-type (eqb t 2) (eqb t 3) (eqb t 9)
+  where
+    extent : Bool → Bool → Bool → ExtentNumbers
+    extent x y z = cond x (byteExtent r p) (cond y (wordExtent r p) (cond z (runExtent r p) (pairExtent r p)))
+
+    pixels : Bool → Bool → Bool → List ℕ → List ℕ
+    pixels x y z b = cond x (bytePixels b p) (cond y (wordPixels b p) (cond z (runPixels 0 (words b)) (pairPixels (words b))))
+
+    by-type : (x y z : Bool) → extent x y z .status ≡ 0
+        → (extent x y z .used ≤ length r) × (length (pixels x y z (take (extent x y z .used) r)) ≡ p)
+    by-type true y z h =
+        let e : ltb (length r) p ≡ false = no-fault (ltb (length r) p) p h in
+        let n : p ≤ length r = ltb-false (length r) p e in
+        rw e (n, length-take-le p (take p r) (omega (arith, length-take-le p r n)))
+    by-type false true z h =
+        let e : ltb (wordCount r) p ≡ false = no-fault (ltb (wordCount r) p) (wordBytes p) h in
+        let n : p ≤ wordCount r = ltb-false (wordCount r) p e in
+        rw e (omega arith, ap length (words-taken r p) ∙ length-take-le p (words r) (omega (arith, length-words r)))
+    by-type false false true h = (
+      extent-within r p (runExtent r p) refl h,
+      length-runPixels 0 (words (take (runExtent r p .used) r)) ∙ extent-total r p (runExtent r p) refl h,
+    )
+    by-type false false false h =
+        let w = pairs-taken r p (pairExtent r p) refl h in
+        (w .0, length-pairPixels (words (take (pairExtent r p .used) r)) ∙ w .1)
+
+-- A scanline uses no more than the bytes that are left, and none where it is lost. Its row has the length that is asked for.
+cond-within : (s : Bool) (n m : ℕ) → (s ≡ false → n ≤ m) → cond s 0 n ≤ m
+cond-within true n m h = omega arith
+cond-within false n m h = h refl
+
+rowOf-length : (n p : ℕ) (xs : List ℕ) → (n ≡ 0 → length xs ≡ p) → length (rowOf n p xs) ≡ p
+rowOf-length n p xs h = go (eqb n 0) refl
+  where
+    go : (s : Bool) → eqb n 0 ≡ s → length (cond s xs (replicate p 0)) ≡ p
+    go true e = h (eqb-true n 0 e)
+    go false e = length-replicate p 0
+
+module _ (scn t p number : ℕ) (rest : List ℕ) where
+  pub used-within : lineOf scn t p number rest .used ≤ length rest
+  used-within = go (eqb scn 1)
+    where
+      go : (s : Bool) → cond s (headedLine t p number rest) (openLine t p rest) .used ≤ length rest
+      go true = cond-within (isLost rest) (4 + wordBytes (following (headOf rest))) (length rest) (λ e. kept rest e .within)
+      go false =
+          cond-within (openLost t p rest) (bodyExtent t rest p .used) (length rest) (λ e. body-taken t p rest (open-kept t p rest e) .0)
+
+  pub lost-used : lineOf scn t p number rest .lost ≡ true → lineOf scn t p number rest .used ≡ 0
+  lost-used = go (eqb scn 1)
+    where
+      go : (s : Bool) → cond s (headedLine t p number rest) (openLine t p rest) .lost ≡ true
+          → cond s (headedLine t p number rest) (openLine t p rest) .used ≡ 0
+      go true e = rw e
+      go false e = rw e
+
+  pub length-row : length (lineOf scn t p number rest .reading .row) ≡ p
+  length-row = go (eqb scn 1)
+    where
+      go : (s : Bool) → length (cond s (headedLine t p number rest) (openLine t p rest) .reading .row) ≡ p
+      go true =
+          ap length (row-by-status t p number (headOf rest) (bodyOf rest) refl)
+          ∙ rowOf-length (reading t p number (headOf rest) (bodyOf rest) .status) p (bodyPixels t (bodyOf rest) p)
+          (λ e. body-pixels t p (bodyOf rest) (good t p number (headOf rest) (bodyOf rest) e .body))
+      go false =
+          rowOf-length (bodyExtent t rest p .status) p (bodyPixels t (take (bodyExtent t rest p .used) rest) p)
+          (λ e. body-taken t p rest e .1)

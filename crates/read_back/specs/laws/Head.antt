@@ -1,0 +1,122 @@
+-- The header of a written file: its fields are those given.
+use Prim.Native.Nat.{ℕ, _+_, _-_, _*_, _/_, _%_, _≤_, _<_}
+use mathlib.Core.Path.{_≡_, refl}
+use mathlib.Core.Bool.{Bool, true, false, cond, _||_}
+use mathlib.Core.List.{List, _++_}
+use native.Mathlib.Omega.{arith}
+use lib.ListN.{length, take}
+use lib.Dec.{eqb}
+use borrow.Author.Tests.{eqb-true}
+use Rattle.units.specs.LittleEndian.{u16At, u32At}
+use Rattle.header.specs.declared.fields.Fields.{Fields}
+use Rattle.header.specs.Fields.{fieldsOf}
+use Rattle.header.specs.Rejections.{isDataType}
+use Rattle.encode_raster.specs.Picture.{Picture}
+use Rattle.encode_raster.specs.Header.{headerBytes, tableArea}
+use Rattle.encode_raster.specs.File.{linesOf, fileBytes}
+use Rattle.read_back.specs.laws.Given.{Bytes, Given}
+
+-- the file: the header up to the table area, that area, and the scanlines
+pub front : Picture → List ℕ
+front i = take 768 (headerBytes i)
+
+module _ (i : Picture) where
+  pub file-is : fileBytes i ≡ front i ++ (tableArea (i .table) ++ linesOf i (i .nol))
+  unfolding fileBytes front
+  file-is = refl
+
+  pub length-front : length (front i) ≡ 768
+  unfolding front
+  length-front = refl
+
+-- the fields, for a picture without a table (true) or with one
+abbrev pub ctvIf : Bool → ℕ
+ctvIf none = cond none 0 1
+
+abbrev pub fieldsIf : Picture → Bool → Fields
+fieldsIf i none =
+    record {
+      htc = 0x0908;
+      wtf = 256 * (2 + ctvIf none) - 2;
+      dtc = i .dtc;
+      ppl = i .ppl;
+      nol = i .nol;
+      drs = i .drs;
+      slo = i .slo;
+      scn = i .scn;
+      ver = 3;
+      ctv = ctvIf none;
+      cte = 0;
+    }
+
+abbrev pub givenFields : Picture → Fields
+givenFields i = fieldsIf i (eqb (length (i .table)) 0)
+
+-- numbers of two and of four bytes come back
+stored : (v : ℕ) → v < 65536 → v % 256 + 256 * (v / 256 % 256) ≡ v
+stored v h = omega arith
+
+stored-long : (v : ℕ) → v < 65536
+    → (v % 256 + 256 * (v / 256 % 256)) + 65536 * (v / 65536 % 256 + 256 * (v / 65536 / 256 % 256)) ≡ v
+stored-long v h = omega arith
+
+type-low : (t : ℕ) → isDataType t ≡ true → t ≤ 10
+unfolding isDataType
+type-low t h = go (eqb t 2) (eqb t 3) (eqb t 9) (eqb t 10) refl refl refl refl h
+  where
+    go : (x y z u : Bool) → eqb t 2 ≡ x → eqb t 3 ≡ y → eqb t 9 ≡ z → eqb t 10 ≡ u → (x || (y || (z || (u || false)))) ≡ true → t ≤ 10
+    go true y z u a b c d h = omega (arith, eqb-true t 2 a)
+    go false true z u a b c d h = omega (arith, eqb-true t 3 b)
+    go false false true u a b c d h = omega (arith, eqb-true t 9 c)
+    go false false false true a b c d h = omega (arith, eqb-true t 10 d)
+    go false false false false a b c d h = absurd (let z : _≡_ {A = ℕ} 0 1 = cc in omega arith)
+
+pub ctv-low : (none : Bool) → ctvIf none ≤ 1
+ctv-low true = omega arith
+ctv-low false = omega arith
+
+module _ (i : Picture) (b : Bytes i) (g : Given i) where
+  c : ctvIf (eqb (length (i .table)) 0) ≤ 1
+  c = ctv-low (eqb (length (i .table)) 0)
+
+  wtf-is : u16At (fileBytes i) 2 ≡ givenFields i .wtf
+  unfolding fileBytes u16At
+  wtf-is = stored (givenFields i .wtf) (omega (arith, c))
+
+  dtc-is : u16At (fileBytes i) 4 ≡ i .dtc
+  unfolding fileBytes u16At
+  dtc-is = stored (i .dtc) (omega (arith, type-low (i .dtc) (g .dataType)))
+
+  ppl-is : u32At (fileBytes i) 184 ≡ i .ppl
+  unfolding fileBytes u16At u32At
+  ppl-is = stored-long (i .ppl) (omega (arith, g .pplHigh))
+
+  nol-is : u32At (fileBytes i) 188 ≡ i .nol
+  unfolding fileBytes u16At u32At
+  nol-is = stored-long (i .nol) (omega (arith, g .nolHigh))
+
+  drs-is : u16At (fileBytes i) 192 ≡ i .drs
+  unfolding fileBytes u16At
+  drs-is = stored (i .drs) (b .drs)
+
+  ctv-is : u16At (fileBytes i) 532 ≡ givenFields i .ctv
+  unfolding fileBytes u16At
+  ctv-is = stored (givenFields i .ctv) (omega (arith, c))
+
+  pub fields-are : fieldsOf (fileBytes i) ≡ givenFields i
+  unfolding fileBytes u16At u32At
+  fields-are =
+      λ j.
+      record {
+        htc = 0x0908;
+        wtf = wtf-is j;
+        dtc = dtc-is j;
+        ppl = ppl-is j;
+        nol = nol-is j;
+        drs = drs-is j;
+        slo = i .slo;
+        scn = i .scn;
+        ver = 3;
+        ctv = ctv-is j;
+        cte = 0;
+      }

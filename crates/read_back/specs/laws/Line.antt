@@ -1,0 +1,139 @@
+-- One scanline as it is written, whatever follows it: its reading is good, and it uses its own bytes.
+use Prim.Native.Nat.{ℕ, _+_, _-_, _%_, _≤_}
+use mathlib.Core.Path.{_≡_, refl, _∙_, ap, ap₂}
+use mathlib.Core.Bool.{Bool, true, false, cond}
+use mathlib.Core.List.{List, _++_}
+use native.Mathlib.Omega.{arith}
+use lib.ListN.{length, take, drop, length-append}
+use lib.Seq.{take-at}
+use lib.Dec.{eqb}
+use borrow.Author.Tests.{eq-eqb, eqb-true, eqb-false}
+use Rattle.units.specs.LittleEndian.{byteAt, u16At}
+use Rattle.units.specs.Rules.{first}
+use Rattle.units.specs.Words.{wordCount, wordBytes}
+use Rattle.decode_body.specs.Extents.{ExtentNumbers}
+use Rattle.decode_body.specs.Statuses.{rowOf}
+use Rattle.encode_body.specs.Bodies.{wordsToBytes}
+use Rattle.encode_body.specs.laws.RoundTrip.{ReadBack}
+use Rattle.layout.specs.Scanline.{bodyRules, bodyPixels, bodyExtent, headOf, bodyOf, following, placementRules, reading, Line, isLost, openLost, headedLine, openLine, lineOf}
+use Rattle.layout.specs.laws.Line.{lostBy, lost-not, not-lost, is-not-lost, open-not-lost, status-body, row-by-status, head-word}
+use Rattle.encode_raster.specs.File.{bodyBytes, lineHeader, lineBytes}
+
+-- a good reading of a row, and as many bytes as were written
+pub record Back (line : Line) (row : List ℕ) (size : ℕ) : Type 0 where
+  pub status : line .reading .status ≡ 0
+  pub pixels : line .reading .row ≡ row
+  pub lost : line .lost ≡ false
+  pub used : line .used ≡ size
+
+abbrev ReadsAs : ℕ → List ℕ → Type 0
+ReadsAs t row = ReadBack (bodyRules t) (bodyPixels t) (bodyExtent t) (bodyBytes t 1 row) (bodyBytes t 0 row) row
+
+-- a scanline header and what follows it
+module _ (number : ℕ) (body rest : List ℕ) where
+  abbrev whole : List ℕ
+  whole = (lineHeader number body ++ body) ++ rest
+
+  identifier : byteAt whole 1 ≡ 0x59
+  unfolding wordsToBytes
+  identifier = refl
+
+  follow : u16At whole 2 ≡ wordCount body + 2
+  unfolding wordsToBytes u16At
+  follow = omega arith
+
+  line-number : u16At whole 4 ≡ number
+  unfolding wordsToBytes u16At
+  line-number = omega arith
+
+  offset : u16At whole 6 ≡ 0
+  unfolding wordsToBytes u16At
+  offset = refl
+
+  after : drop 8 whole ≡ body ++ rest
+  unfolding wordsToBytes
+  after = refl
+
+  length-whole : length whole ≡ 8 + length (body ++ rest)
+  unfolding wordsToBytes
+  length-whole = omega arith
+
+  length-line : length (lineHeader number body ++ body) ≡ 8 + length body
+  unfolding wordsToBytes
+  length-line = omega arith
+
+  kept : length body % 2 ≡ 0 → lostBy whole ≡ 0
+  kept even =
+      lost-not whole (omega (arith, length-whole)) identifier (omega (arith, follow))
+      (omega (arith, follow, length-whole, length-append body rest))
+
+  body-back : length body % 2 ≡ 0 → bodyOf whole ≡ body
+  body-back even =
+      let l = not-lost whole (kept even) in
+      let n : length body ≡ 4 + wordBytes (following (headOf whole)) - 8 = omega (arith, head-word whole 2 (omega arith), follow) in
+      l .body
+      ∙ ap (take (4 + wordBytes (following (headOf whole)) - 8)) after
+      ∙ take-at body rest (4 + wordBytes (following (headOf whole)) - 8) n
+
+  fields-right : first (placementRules number (headOf whole)) ≡ 0
+  fields-right =
+      simp (
+        eq-eqb (u16At (headOf whole) 4) number (head-word whole 4 (omega arith) ∙ line-number),
+        eq-eqb (u16At (headOf whole) 6) 0 (head-word whole 6 (omega arith) ∙ offset),
+      )
+
+headed : (t number : ℕ) (row rest : List ℕ) → ReadsAs t row
+    → Back (headedLine t (length row) number (whole number (bodyBytes t 1 row) rest)) row
+    (length (lineHeader number (bodyBytes t 1 row) ++ bodyBytes t 1 row))
+headed t number row rest b =
+    let body = bodyBytes t 1 row in
+    let all = whole number body rest in
+    let k = kept number body rest (b .headed-whole) in
+    let e : bodyOf all ≡ body = body-back number body rest (b .headed-whole) in
+    let s : reading t (length row) number (headOf all) (bodyOf all) .status ≡ 0 =
+    status-body t (length row) number (headOf all) (bodyOf all) k (fields-right number body rest)
+    ∙ ap (λ (x : List ℕ). first (bodyRules t x (length row))) e
+    ∙ b .headed-status in
+    let l : isLost all ≡ false = is-not-lost all k in
+    record {
+      status = s;
+      pixels =
+          row-by-status t (length row) number (headOf all) (bodyOf all) s
+          ∙ ap (λ (x : List ℕ). bodyPixels t x (length row)) e
+          ∙ b .headed-pixels;
+      lost = l;
+      used = rw l (omega (arith, not-lost all k .size, ap length e, length-line number body rest));
+    }
+
+unheaded : (t : ℕ) (row rest : List ℕ) → ReadsAs t row
+    → Back (openLine t (length row) (bodyBytes t 0 row ++ rest)) row (length (bodyBytes t 0 row))
+unheaded t row rest b =
+    let all = bodyBytes t 0 row ++ rest in
+    let e = b .open-extent rest in
+    let s : bodyExtent t all (length row) .status ≡ 0 = ap (λ (x : ExtentNumbers). x .status) e in
+    let u : bodyExtent t all (length row) .used ≡ length (bodyBytes t 0 row) = ap (λ (x : ExtentNumbers). x .used) e in
+    let l : openLost t (length row) all ≡ false = open-not-lost t (length row) all s in
+    record {
+      status = s;
+      pixels =
+          ap₂ (λ (x y : ℕ). rowOf x (length row) (bodyPixels t (take y all) (length row))) s u
+          ∙ b .open-pixels rest;
+      lost = l;
+      used = rw l u;
+    }
+
+-- by SCN
+pub line-back : (scn t p number : ℕ) (row rest : List ℕ) → scn ≤ 1 → length row ≡ p → ReadsAs t row
+    → Back (lineOf scn t p number (lineBytes t scn number row ++ rest)) row (length (lineBytes t scn number row))
+unfolding lineBytes
+line-back scn t p number row rest h l b = go (eqb scn 1) refl
+  where
+    go : (x : Bool) → eqb scn 1 ≡ x
+        → Back (cond x (headedLine t p number (cond x (lineHeader number (bodyBytes t scn row) ++ bodyBytes t scn row) (bodyBytes t scn row) ++ rest))
+        (openLine t p (cond x (lineHeader number (bodyBytes t scn row) ++ bodyBytes t scn row) (bodyBytes t scn row) ++ rest))) row
+        (length (cond x (lineHeader number (bodyBytes t scn row) ++ bodyBytes t scn row) (bodyBytes t scn row)))
+    go true e = let s : scn ≡ 1 = eqb-true scn 1 e in rw (s, ← l) (headed t number row rest b)
+    go false e =
+        let n : scn ≡ 1 → ⊥ = eqb-false scn 1 e in
+        let s : scn ≡ 0 = omega arith in
+        rw (s, ← l) (unheaded t row rest b)

@@ -1,0 +1,4 @@
+pub mod LittleEndian
+pub mod Rules
+pub mod Scan
+pub mod Words
