@@ -8,7 +8,7 @@ use Rattle.units.specs.Scan.{scan}
 use Rattle.color.specs.declared.ColorAnswer.{ColorAnswer}
 use Rattle.color.specs.declared.ColorAnswer.the-variants.{Rejected, Found}
 use Rattle.header.specs.Fields.{fieldsOf}
-use Rattle.header.specs.Rejections.{rejection, entryStart, slotAt}
+use Rattle.header.specs.Rejections.{rejectionTo22, entryStart, slotAt}
 
 -- the number of the rejection or 0, and the three parts
 pub record ColorNumbers : Type 0 where
@@ -23,15 +23,19 @@ color r g b = record { number = 0; red = r; green = g; blue = b }
 abbrev pub noColor : ℕ → ColorNumbers
 noColor n = record { number = n; red = 0; green = 0; blue = 0 }
 
+-- A part c of one byte is 256c in 16 bits: the scale of colors, and no unit of the format.
+abbrev pub scaled : ℕ → ℕ
+scaled c = 256 * c
+
 -- without a table: the identity
 abbrev pub grayColor : ℕ → ColorNumbers
-grayColor v = cond (ltb 255 v) (noColor 25) (color (256 * v) (256 * v) (256 * v))
+grayColor v = cond (ltb 255 v) (noColor 25) (color (scaled v) (scaled v) (scaled v))
 
 -- IGDS: 256 triples of bytes from byte 768
 abbrev pub igdsColor : List ℕ → ℕ → ColorNumbers
 igdsColor f v =
     cond (ltb 255 v) (noColor 25)
-    (color (256 * byteAt f (768 + 3 * v)) (256 * byteAt f (768 + 3 * v + 1)) (256 * byteAt f (768 + 3 * v + 2)))
+    (color (scaled (byteAt f (768 + 3 * v))) (scaled (byteAt f (768 + 3 * v + 1))) (scaled (byteAt f (768 + 3 * v + 2))))
 
 -- Environ-V: the entry that has the value as its slot, as stored
 abbrev pub entryColor : List ℕ → ℕ → ColorNumbers
@@ -48,7 +52,7 @@ tableColor f v =
 
 -- the color of a value in a file
 abbrev pub colorReading : List ℕ → ℕ → ColorNumbers
-colorReading f v = cond (eqb (rejection f) 0) (tableColor f v) (noColor (rejection f))
+colorReading f v = cond (eqb (rejectionTo22 f) 0) (tableColor f v) (noColor (rejectionTo22 f))
 
 -- the paper's numbers of an answer
 abbrev pub colorNumbers : ColorAnswer → ColorNumbers

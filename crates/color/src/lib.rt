@@ -3,7 +3,7 @@ ghost use mathlib.Core.Path.{_≡_};
 ghost use Rattle.color.specs.Color.{colorNumbers, colorReading, grayColor, igdsColor, environColor, entryColor};
 use header::entry_start;
 use header::fields_of;
-use header::rejection_of;
+use header::rejection_to_22;
 use header::slot_at;
 use units::byte_at;
 use units::u16_at;
@@ -20,11 +20,14 @@ pub enum ColorAnswer {
     Found(Rgb),
 }
 
+// A part c of one byte is 256c in 16 bits: the scale of colors, and no unit of the format.
+const SCALE: u16 = 256;
+
 // The color of a pixel value in a file.
 pub fn color_of(file: &[u8], value: u32) -> ColorAnswer
     ensures { λ r. ⌜ colorNumbers r ≡ colorReading (now (file .entry)) value ⌝ }
 {
-    let number = rejection_of(file);
+    let number = rejection_to_22(file);
     if number != 0 {
         return ColorAnswer::Rejected(number);
     }
@@ -45,7 +48,7 @@ fn gray_color(value: u32) -> ColorAnswer
     if 255 < value {
         return ColorAnswer::Rejected(25);
     }
-    let part = 256 * (value as u16);
+    let part = SCALE * (value as u16);
     ColorAnswer::Found(Rgb {
         red: part,
         green: part,
@@ -61,9 +64,9 @@ fn igds_color(file: &[u8], value: u32) -> ColorAnswer
     }
     let at = 768 + 3 * (value as usize);
     ColorAnswer::Found(Rgb {
-        red: 256 * (byte_at(file, at) as u16),
-        green: 256 * (byte_at(file, at + 1) as u16),
-        blue: 256 * (byte_at(file, at + 2) as u16),
+        red: SCALE * (byte_at(file, at) as u16),
+        green: SCALE * (byte_at(file, at + 1) as u16),
+        blue: SCALE * (byte_at(file, at + 2) as u16),
     })
 }
 

@@ -1,5 +1,1 @@
-pub mod Answers
-pub mod Extents
-pub mod Pixels
-pub mod Statuses
 pub mod laws

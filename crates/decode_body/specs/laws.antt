@@ -1,3 +1,2 @@
-pub mod Copy
-pub mod Pairs
-pub mod Runs
+pub mod ByType
+pub mod Fit

@@ -1,50 +1,53 @@
 // Type 2: a byte for each pixel.
 ghost use mathlib.Core.Path.{_≡_};
-ghost use Prim.Native.Nat.{_≤_};
 ghost use lib.ListN.{length, take};
 ghost use Rattle.units.specs.Rules.{first};
-ghost use Rattle.decode_body.specs.Pixels.{bytePixels};
-ghost use Rattle.decode_body.specs.Statuses.{byteRules, rowOf};
-ghost use Rattle.decode_body.specs.Extents.{byteExtent};
-ghost use Rattle.decode_body.specs.Answers.{extentNumbers};
-use crate::Extent;
-use crate::filling::fill;
+ghost use Rattle.codec.specs.Codec.{rowOf};
+ghost use Rattle.codec.specs.BytePixels.{byteRules, bytePixels, byteExtent};
+use codec::Extent;
+use codec::fault;
+use codec::taken;
+use slices::fill;
+use slices::widen;
+use units::Bytes;
 
 // Reads a body of known length: a byte for each pixel, and a spare byte after an odd number of them.
 pub fn read_bytes(body: &[u8], row: &mut [u16]) -> u8
     ensures { λ r. ⌜ r ≡ first (byteRules (now (body .entry)) (length (now (row .entry)))) ⌝ }
     ensures { λ r. ⌜ now (row .exit) ≡ rowOf r (length (now (row .entry))) (bytePixels (now (body .entry)) (length (now (row .entry)))) ⌝ }
 {
-    let p = row.len();
-    if body.len() != p + p % 2 {
+    let status = bytes_status(body, row.len());
+    if status != 0 {
         fill(row, 0);
-        return 6;
+        return status;
     }
-    copy_bytes(body, row);
+    widen(body, row);
     0
 }
 
 // Takes a byte for each pixel, with no spare byte.
 pub fn take_bytes(rest: &[u8], row: &mut [u16]) -> Extent
-    ensures { λ r. ⌜ extentNumbers r ≡ byteExtent (now (rest .entry)) (length (now (row .entry))) ⌝ }
-    ensures { λ r. ⌜ now (row .exit) ≡ rowOf (r .status) (length (now (row .entry))) (bytePixels (take (r .used) (now (rest .entry))) (length (now (row .entry)))) ⌝ }
+    ensures { λ r. ⌜ r ≡ byteExtent (now (rest .entry)) (length (now (row .entry))) ⌝ }
+    ensures { λ r. ⌜ now (row .exit) ≡ rowOf (r .status) (length (now (row .entry))) (bytePixels (take (r .used .0) (now (rest .entry))) (length (now (row .entry)))) ⌝ }
 {
     let p = row.len();
     if rest.len() < p {
         fill(row, 0);
-        return Extent { status: 1, used: 0 };
+        return fault(1);
     }
-    copy_bytes(rest, row);
-    Extent { status: 0, used: p }
+    widen(rest, row);
+    taken(Bytes(p))
 }
 
-fn copy_bytes(body: &[u8], row: &mut [u16])
-    requires { ⌜ length (now row) ≤ length (now body) ⌝ }
-    ensures { λ _. ⌜ now (row .exit) ≡ bytePixels (now (body .entry)) (length (now (row .entry))) ⌝ }
+// The status of a body for a row of p pixels. The spare byte is what is left of the body, so no sum can overflow.
+pub fn bytes_status(body: &[u8], p: usize) -> u8
+    ensures { λ r. ⌜ r ≡ first (byteRules (now (body .entry)) p) ⌝ }
 {
-    let mut i = 0;
-    while i < row.len() {
-        row[i] = body[i] as u16;
-        i += 1;
+    if body.len() < p {
+        return 6;
     }
+    if body.len() - p != p % 2 {
+        return 6;
+    }
+    0
 }

@@ -1,5 +1,4 @@
--- What reading a raster answers, and what is known of its chain on the way.
-use Rattle.layout.specs.Chain.{good}
+-- What reading a raster answers, as the paper's numbers.
 use Rattle.layout.specs.Reading.{RasterNumbers}
 use Rattle.decode_raster.specs.declared.RasterAnswer.{RasterAnswer}
 

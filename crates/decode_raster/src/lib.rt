@@ -3,22 +3,20 @@
 // A rejected call changes nothing. Otherwise every row is stored in its own place, every scanline has its status, the
 // paper's mark, and what lies past the last row or status is left as it was.
 ghost use mathlib.Core.Path.{_≡_};
-ghost use Prim.Native.Nat.{_*_, _≤_, _<_};
-ghost use mathlib.Core.List.{_++_};
-ghost use lib.ListN.{length, drop};
-ghost use Rattle.header.specs.Fields.{fieldsOf};
-ghost use Rattle.header.specs.Rejections.{rejection};
-ghost use Rattle.layout.specs.Chain.{pplOf, nolOf, rows, statuses};
-ghost use Rattle.layout.specs.Reading.{rasterRejection, rasterReading, pixelsAfter, marksAfter};
+ghost use Prim.Native.Nat.{_≤_, _<_};
+ghost use lib.ListN.{length};
+ghost use Rattle.limits.specs.Limits.{mostLines};
+ghost use Rattle.layout.specs.Chain.{sheetOf, rasterOf, oneIfGood};
+ghost use Rattle.layout.specs.Reading.{rasterRejection, rasterReading, pixelsAfter, marksAfter, answerOf};
 ghost use Rattle.decode_raster.specs.Answer.{rasterNumbers};
-ghost use Rattle.decode_raster.specs.laws.Answer.{answerOf, oneIfGood, FirstChain, ChainAt, Stepped};
-use decode_body::fill;
+ghost use Rattle.decode_raster.specs.laws.Answer.{Fits, ChainAt, Stepped};
+ghost use Rattle.decode_raster.specs.laws.Lines.{Done};
 use decode_scanline::read_scanline;
-use header::Fields;
+use header::data_start;
 use header::fields_of;
-use header::header_blocks;
-use header::rejection_of;
-use units::blocks_to_bytes;
+use header::rejection_to_22;
+use layout::RasterLayout;
+use slices::fill;
 
 // 0 where every scanline is good and 1 where not, or the number of the rejection; how many scanlines are good; and the
 // byte after the last one, or the first byte of the one that is lost.
@@ -51,10 +49,10 @@ pub fn read_raster(file: &[u8], pixels: &mut [u16], marks: &mut [u8]) -> RasterA
             end: 0,
         };
     }
-    let h = fields_of(file);
-    let chain = read_lines(file, h, pixels, marks);
+    let sheet = sheet_layout(file);
+    let chain = read_lines(file, sheet, pixels, marks);
     RasterAnswer {
-        answer: answer_of(chain.good, h.nol),
+        answer: answer_of(chain.good, sheet.nol),
         good: chain.good,
         end: chain.at,
     }
@@ -64,13 +62,13 @@ pub fn read_raster(file: &[u8], pixels: &mut [u16], marks: &mut [u8]) -> RasterA
 pub fn raster_rejection(file: &[u8], pixels: usize, marks: usize) -> u16
     ensures { λ r. ⌜ r ≡ rasterRejection (now (file .entry)) pixels marks ⌝ }
 {
-    let rejected = rejection_of(file);
+    let rejected = rejection_to_22(file);
     if rejected != 0 {
         return rejected;
     }
-    let h = fields_of(file);
-    let ppl = h.ppl as usize;
-    let nol = h.nol as usize;
+    let sheet = sheet_layout(file);
+    let ppl = sheet.ppl as usize;
+    let nol = sheet.nol as usize;
     if pixels < nol * ppl {
         return 23;
     }
@@ -80,6 +78,20 @@ pub fn raster_rejection(file: &[u8], pixels: usize, marks: usize) -> u16
     0
 }
 
+// The raster of a whole file, by its header.
+fn sheet_layout(file: &[u8]) -> RasterLayout
+    ensures { λ r. ⌜ rasterOf r (now (file .entry)) ≡ sheetOf (now (file .entry)) ⌝ }
+{
+    let h = fields_of(file);
+    RasterLayout {
+        start: data_start(file),
+        scn: h.scn,
+        dtc: h.dtc,
+        ppl: h.ppl,
+        nol: h.nol,
+    }
+}
+
 fn answer_of(good: u32, nol: u32) -> u32
     ensures { λ r. ⌜ r ≡ answerOf good nol ⌝ }
 {
@@ -87,49 +99,37 @@ fn answer_of(good: u32, nol: u32) -> u32
 }
 
 // Reads the scanlines one after the other, each into its own part of the pixels.
-fn read_lines(file: &[u8], h: Fields, pixels: &mut [u16], marks: &mut [u8]) -> Chain
-    requires { ⌜ rejection (now file) ≡ 0 ⌝ }
-    requires { ⌜ h ≡ fieldsOf (now file) ⌝ }
-    requires { ⌜ nolOf (now file) * pplOf (now file) ≤ length (now pixels) ⌝ }
-    requires { ⌜ nolOf (now file) ≤ length (now marks) ⌝ }
-    ensures { λ r. ⌜ ChainAt (now (file .entry)) (nolOf (now (file .entry))) r ⌝ }
-    ensures { λ r. ⌜ now (pixels .exit) ≡ rows (now (file .entry)) (nolOf (now (file .entry))) ++ drop (nolOf (now (file .entry)) * pplOf (now (file .entry))) (now (pixels .entry)) ⌝ }
-    ensures { λ r. ⌜ now (marks .exit) ≡ statuses (now (file .entry)) (nolOf (now (file .entry))) ++ drop (nolOf (now (file .entry))) (now (marks .entry)) ⌝ }
+fn read_lines(bytes: &[u8], l: RasterLayout, pixels: &mut [u16], marks: &mut [u8]) -> Chain
+    requires { ⌜ Fits (rasterOf l (now bytes)) (length (now pixels)) (length (now marks)) ⌝ }
+    ensures { λ r. ⌜ Done (rasterOf l (now (bytes .entry))) (now (pixels .entry)) (now (marks .entry)) (now (pixels .exit)) (now (marks .exit)) r ⌝ }
 {
-    let p = h.ppl as usize;
-    let n = h.nol as usize;
-    let mut chain = first_line(h);
+    let p = l.ppl as usize;
+    let n = l.nol as usize;
+    let mut chain = Chain {
+        at: l.start,
+        lost: false,
+        good: 0,
+        status: 0,
+    };
     let mut k = 0;
     while k < n {
         let from = k * p;
         let to = from + p;
-        chain = read_line(file, h, chain, k, &mut pixels[from..to]);
+        chain = read_line(bytes, l, chain, k, &mut pixels[from..to]);
         marks[k] = chain.status;
         k += 1;
     }
     chain
 }
 
-// The chain before the first scanline: the raster data begin after the header's blocks.
-fn first_line(h: Fields) -> Chain
-    ensures { λ r. ⌜ FirstChain h r ⌝ }
-{
-    Chain {
-        at: blocks_to_bytes(header_blocks(h)).0,
-        lost: false,
-        good: 0,
-        status: 0,
-    }
-}
-
 // Reads scanline k, counted from 0, where the chain has come to it. After a lost one only zeros are stored.
-fn read_line(file: &[u8], h: Fields, chain: Chain, k: usize, row: &mut [u16]) -> Chain
-    requires { ⌜ rejection (now file) ≡ 0 ⌝ }
-    requires { ⌜ h ≡ fieldsOf (now file) ⌝ }
-    requires { ⌜ ChainAt (now file) k chain ⌝ }
-    requires { ⌜ k < nolOf (now file) ⌝ }
-    requires { ⌜ length (now row) ≡ pplOf (now file) ⌝ }
-    ensures { λ r. ⌜ Stepped (now (file .entry)) k r (now (row .exit)) ⌝ }
+fn read_line(bytes: &[u8], l: RasterLayout, chain: Chain, k: usize, row: &mut [u16]) -> Chain
+    requires { ⌜ l .start ≤ length (now bytes) ⌝ }
+    requires { ⌜ l .nol ≤ mostLines ⌝ }
+    requires { ⌜ ChainAt (rasterOf l (now bytes)) k chain ⌝ }
+    requires { ⌜ k < l .nol ⌝ }
+    requires { ⌜ length (now row) ≡ l .ppl ⌝ }
+    ensures { λ r. ⌜ Stepped (rasterOf l (now (bytes .entry))) k r (now (row .exit)) ⌝ }
 {
     let at = chain.at;
     if chain.lost {
@@ -142,9 +142,9 @@ fn read_line(file: &[u8], h: Fields, chain: Chain, k: usize, row: &mut [u16]) ->
         };
     }
     let number = (k + 1) as u16;
-    let line = read_scanline(h.scn, h.dtc, number, &file[at..], row);
+    let line = read_scanline(l.scn, l.dtc, number, &bytes[at..], row);
     Chain {
-        at: at + line.used,
+        at: at + line.used.0,
         lost: line.lost,
         good: chain.good + one_if_good(line.status),
         status: line.status,

@@ -2,11 +2,11 @@
 use Prim.Native.Nat.{ℕ}
 use mathlib.Core.Path.{_≡_}
 use mathlib.Core.List.{List}
-use Rattle.layout.specs.Scanline.{Line}
+use Rattle.layout.specs.Scanline.{Reading, Step}
 use Rattle.decode_scanline.specs.declared.Scanline.{Scanline}
 
-pub record IsLine (l : Line) (r : Scanline) (row : List ℕ) : Type 0 where
-  pub status : r .status ≡ l .reading .status
-  pub lost : r .lost ≡ l .lost
-  pub used : r .used ≡ l .used
-  pub row-is : row ≡ l .reading .row
+pub record IsLine (s : Step) (x : Reading) (r : Scanline) (row : List ℕ) : Type 0 where
+  pub status : r .status ≡ x .status
+  pub lost : r .lost ≡ s .lost
+  pub used : r .used .0 ≡ s .used .0
+  pub row-is : row ≡ x .row

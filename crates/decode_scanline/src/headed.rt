@@ -1,57 +1,69 @@
 // A scanline with a header: identifier, words to follow, line number, pixel offset, a word each, and then the body.
 ghost use mathlib.Core.Path.{_≡_};
-ghost use Prim.Native.Nat.{_+_, _≤_};
+ghost use Prim.Native.Nat.{_+_, _≤_, _<_};
 ghost use lib.ListN.{length};
+ghost use Rattle.units.specs.Counts.{bytesOfWords};
+ghost use Rattle.units.specs.LittleEndian.{u16At};
 ghost use Rattle.units.specs.Rules.{first};
-ghost use Rattle.units.specs.Words.{wordBytes};
-ghost use Rattle.layout.specs.Scanline.{headedLine, headOf, bodyOf, lostRules, placementRules, following};
+ghost use Rattle.layout.specs.Scanline.{headedStep, headedReading, headOf, bodyOf, lostRules, placementRules};
 ghost use Rattle.decode_scanline.specs.Answer.{IsLine};
 use crate::Scanline;
-use crate::body::read_body;
-use decode_body::fill;
+use decode_body::read_body;
+use slices::fill;
+use units::Bytes;
 use units::Words;
 use units::u16_at;
 use units::words_to_bytes;
 
 pub fn read_headed(dtc: u16, number: u16, rest: &[u8], row: &mut [u16]) -> Scanline
-    ensures { λ r. ⌜ IsLine (headedLine dtc (length (now (row .entry))) number (now (rest .entry))) r (now (row .exit)) ⌝ }
+    ensures { λ r. ⌜ IsLine (headedStep (now (rest .entry))) (headedReading dtc (length (now (row .entry))) number (now (rest .entry))) r (now (row .exit)) ⌝ }
 {
-    let frame = frame_status(rest);
-    if frame != 0 {
+    let lost = lost_status(rest);
+    if lost != 0 {
         fill(row, 0);
         return Scanline {
-            status: frame,
+            status: lost,
             lost: true,
-            used: 0,
+            used: Bytes(0),
         };
     }
-    let end = body_end(u16_at(rest, 2));
-    let field = field_status(rest, number);
-    if field != 0 {
+    let used = size_by(words_to_follow(rest));
+    let placement = placement_status(rest, number);
+    if placement != 0 {
         fill(row, 0);
         return Scanline {
-            status: field,
+            status: placement,
             lost: false,
-            used: end,
+            used,
         };
     }
+    let end = used.0;
     let status = read_body(dtc, &rest[8..end], row);
     Scanline {
         status,
         lost: false,
-        used: end,
+        used,
     }
 }
 
-// Where a scanline ends that has these words to follow: they are counted from after the field that holds their number.
-fn body_end(following: u16) -> usize
-    ensures { λ r. ⌜ r ≡ 4 + wordBytes following ⌝ }
+// W: a header's second word, the words that follow it.
+fn words_to_follow(rest: &[u8]) -> Words
+    ensures { λ r. ⌜ r .0 ≡ u16At (now (rest .entry)) 2 ⌝ }
+    ensures { λ r. ⌜ r .0 < 65536 ⌝ }
 {
-    4 + words_to_bytes(Words(following as u32)).0
+    Words(u16_at(rest, 2) as usize)
+}
+
+// The bytes of a scanline that has these words to follow: they come after its first two words.
+fn size_by(following: Words) -> Bytes
+    requires { ⌜ following .0 < 65536 ⌝ }
+    ensures { λ r. ⌜ r .0 ≡ 4 + bytesOfWords following .0 ⌝ }
+{
+    Bytes(4 + words_to_bytes(following).0)
 }
 
 // 1 to 3, with which a scanline is lost, or 0.
-fn frame_status(rest: &[u8]) -> u8
+fn lost_status(rest: &[u8]) -> u8
     ensures { λ r. ⌜ r ≡ first (lostRules (headOf (now (rest .entry))) (bodyOf (now (rest .entry)))) ⌝ }
 {
     if rest.len() < 8 {
@@ -60,19 +72,19 @@ fn frame_status(rest: &[u8]) -> u8
     if rest[1] != 0x59 {
         return 2;
     }
-    let following = u16_at(rest, 2);
-    if following < 2 {
+    let following = words_to_follow(rest);
+    if following.0 < 2 {
         return 3;
     }
-    let end = body_end(following);
-    if rest.len() < end {
+    let size = size_by(following);
+    if rest.len() < size.0 {
         return 1;
     }
     0
 }
 
 // 4 or 5, for a line number or a pixel offset that is wrong, or 0.
-fn field_status(rest: &[u8], number: u16) -> u8
+fn placement_status(rest: &[u8], number: u16) -> u8
     requires { ⌜ 8 ≤ length (now rest) ⌝ }
     ensures { λ r. ⌜ r ≡ first (placementRules number (headOf (now (rest .entry)))) ⌝ }
 {

@@ -5,9 +5,8 @@ use mathlib.Core.Path.{_≡_}
 use mathlib.Core.List.{List, [], _∷_, _++_, map}
 use lib.ListN.{replicate}
 use Rattle.header.specs.Reading.{headerReading}
-use Rattle.layout.specs.Chain.{good}
 use Rattle.layout.specs.Reading.{rasterReading, pixelsAfter, marksAfter}
-use Rattle.edges.specs.Files.{header, word, line, oneLine, twoOpen, environ}
+use Rattle.edges.specs.Files.{header, withWord, line, oneLine, twoOpen, environ}
 
 -- A file; the blocks of its header and the kind and size of its resolution, zeros where it is rejected; and of its reading
 -- the answer, the good lines, the end, and the buffers afterwards.
@@ -82,7 +81,7 @@ cases =
     rejects [] 11 ∷
     -- 2: WTF 510 is two blocks, and 509 none. The file ends with its header, so the scanline is lost.
     one (header 2 9 8 1 1) 1 blank 1024 ∷
-    rejects (word 2 509 (header 2 9 8 1 1)) 13 ∷
+    rejects (withWord 2 509 (header 2 9 8 1 1)) 13 ∷
     -- 3: a type 9 body
     oneGood (oneLine 9 (3 ∷ 2 ∷ 3 ∷ [])) (0 ∷ 0 ∷ 0 ∷ 1 ∷ 1 ∷ 0 ∷ 0 ∷ 0 ∷ []) 1038 ∷
     -- 4: a total above P, one below, and an even number of words
@@ -106,7 +105,7 @@ cases =
     reads (header 2 2 3 1 1 ++ line 4 1 (5 ∷ 6 ∷ 7 ∷ 99 ∷ [])) 0 1 1036 (0 ∷ (7 ∷ (7 ∷ []))) ((5 ∷ 6 ∷ 7 ∷ []) ++ replicate 14 7) ∷
     -- 12: DRS -200 is 200 dots per inch
     record {
-      file = word 192 (65536 - 200) (oneLine 9 (8 ∷ []));
+      file = withWord 192 (65536 - 200) (oneLine 9 (8 ∷ []));
       blocks = 2;
       kind = 2;
       size = 200;

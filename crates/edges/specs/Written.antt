@@ -2,7 +2,7 @@
 use mathlib.Core.Path.{_≡_}
 use mathlib.Core.List.{[], _∷_}
 use lib.ListN.{replicate}
-use Rattle.encode_body.specs.Runs.{runWords}
+use Rattle.codec.specs.RunPixels.{runWords}
 
 abbrev pub Off32768 : Type 0
 Off32768 = runWords (replicate 32768 0) ≡ 32767 ∷ 0 ∷ 1 ∷ []

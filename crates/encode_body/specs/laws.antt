@@ -1,12 +1,3 @@
+pub mod ByType
 pub mod Bytes
-pub mod Leading
 pub mod Left
-pub mod Over
-pub mod Pairs
-pub mod Pieces
-pub mod RoundTrip
-pub mod RoundTripPairs
-pub mod RoundTripRuns
-pub mod RoundTripWords
-pub mod Runs
-pub mod Words

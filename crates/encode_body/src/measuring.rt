@@ -2,7 +2,7 @@
 ghost use mathlib.Core.Path.{_≡_};
 ghost use Prim.Native.Nat.{_+_};
 ghost use lib.ListN.{drop};
-ghost use Rattle.encode_body.specs.Leading.{leading};
+ghost use Rattle.codec.specs.Leading.{leading};
 
 // Where the pixels of value `v` that start at `from` end.
 pub fn run_end(row: &[u16], from: usize, v: u16) -> usize

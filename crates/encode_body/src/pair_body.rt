@@ -1,17 +1,19 @@
 // Type 10: pairs of words, value then count.
 ghost use mathlib.Core.Path.{_≡_};
-ghost use Prim.Native.Nat.{_+_, _*_, _<_, _^_};
+ghost use Prim.Native.Nat.{_+_, _<_, _^_};
 ghost use lib.ListN.{length};
 ghost use lib.Seq.{sets};
-ghost use Rattle.encode_body.specs.Over.{over};
-ghost use Rattle.encode_body.specs.Runs.{valuePieces};
-ghost use Rattle.encode_body.specs.Bodies.{pairBody, wordsToBytes};
+ghost use Rattle.units.specs.Counts.{wordBytes};
+ghost use Rattle.units.specs.Over.{over};
+ghost use Rattle.units.specs.Words.{wordsToBytes};
+ghost use Rattle.codec.specs.PairPixels.{valuePieces, pairBody};
 use crate::measuring::run_end;
-use crate::put_word;
+use crate::put_next;
+use units::Bytes;
 
 // Writes the runs of equal pixels of a row.
-pub fn write_pairs(row: &[u16], out: &mut [u8]) -> usize
-    ensures { λ r. ⌜ r ≡ length (pairBody (now (row .entry))) ⌝ }
+pub fn write_pairs(row: &[u16], out: &mut [u8]) -> Bytes
+    ensures { λ r. ⌜ r .0 ≡ length (pairBody (now (row .entry))) ⌝ }
     ensures { λ r. ⌜ now (out .exit) ≡ over (pairBody (now (row .entry))) (now (out .entry)) ⌝ }
 {
     let mut at = 0;
@@ -22,22 +24,22 @@ pub fn write_pairs(row: &[u16], out: &mut [u8]) -> usize
         at = put_pairs(out, at, v, end - i);
         i = end;
     }
-    at
+    Bytes(at)
 }
 
 // One run of n pixels, in pieces, each with its value. Answers the place after it.
 fn put_pairs(out: &mut [u8], at: usize, v: u16, n: usize) -> usize
-    requires { ⌜ at + 2 * length (valuePieces v n n) < 2 ^ 64 ⌝ }
-    ensures { λ r. ⌜ r ≡ at + 2 * length (valuePieces v n n) ⌝ }
+    requires { ⌜ at + wordBytes (length (valuePieces v n n)) < 2 ^ 64 ⌝ }
+    ensures { λ r. ⌜ r ≡ at + wordBytes (length (valuePieces v n n)) ⌝ }
     ensures { λ _. ⌜ now (out .exit) ≡ sets (now (out .entry)) at (wordsToBytes (valuePieces v n n)) ⌝ }
 {
     let mut to = at;
     let mut left = n;
     while 32767 < left {
-        to = put_word(out, to, v);
-        to = put_word(out, to, 32767);
+        to = put_next(out, to, v);
+        to = put_next(out, to, 32767);
         left -= 32767;
     }
-    to = put_word(out, to, v);
-    put_word(out, to, left as u16)
+    to = put_next(out, to, v);
+    put_next(out, to, left as u16)
 }

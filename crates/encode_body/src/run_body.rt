@@ -1,17 +1,19 @@
 // Type 9: words, alternately OFF and ON runs.
 ghost use mathlib.Core.Path.{_≡_};
-ghost use Prim.Native.Nat.{_+_, _*_, _<_, _^_};
+ghost use Prim.Native.Nat.{_+_, _<_, _^_};
 ghost use lib.ListN.{length};
 ghost use lib.Seq.{sets};
-ghost use Rattle.encode_body.specs.Over.{over};
-ghost use Rattle.encode_body.specs.Runs.{levelPieces};
-ghost use Rattle.encode_body.specs.Bodies.{runBody, wordsToBytes};
+ghost use Rattle.units.specs.Counts.{wordBytes};
+ghost use Rattle.units.specs.Over.{over};
+ghost use Rattle.units.specs.Words.{wordsToBytes};
+ghost use Rattle.codec.specs.RunPixels.{levelPieces, runBody};
 use crate::measuring::run_end;
-use crate::put_word;
+use crate::put_next;
+use units::Bytes;
 
 // Writes the runs of a row of 0 and 1.
-pub fn write_runs(row: &[u16], out: &mut [u8]) -> usize
-    ensures { λ r. ⌜ r ≡ length (runBody (now (row .entry))) ⌝ }
+pub fn write_runs(row: &[u16], out: &mut [u8]) -> Bytes
+    ensures { λ r. ⌜ r .0 ≡ length (runBody (now (row .entry))) ⌝ }
     ensures { λ r. ⌜ now (out .exit) ≡ over (runBody (now (row .entry))) (now (out .entry)) ⌝ }
 {
     // the level of the run that starts at pixel i, after the first OFF run, which can be empty
@@ -25,24 +27,24 @@ pub fn write_runs(row: &[u16], out: &mut [u8]) -> usize
         i = end;
     }
     if level == 1 {
-        return at;
+        return Bytes(at);
     }
     // after an ON run, an empty OFF run ends the line
-    put_word(out, at, 0)
+    Bytes(put_next(out, at, 0))
 }
 
 // One run of n pixels, in pieces with empty runs of the other level between them. Answers the place after it.
 fn put_run(out: &mut [u8], at: usize, n: usize) -> usize
-    requires { ⌜ at + 2 * length (levelPieces n n) < 2 ^ 64 ⌝ }
-    ensures { λ r. ⌜ r ≡ at + 2 * length (levelPieces n n) ⌝ }
+    requires { ⌜ at + wordBytes (length (levelPieces n n)) < 2 ^ 64 ⌝ }
+    ensures { λ r. ⌜ r ≡ at + wordBytes (length (levelPieces n n)) ⌝ }
     ensures { λ _. ⌜ now (out .exit) ≡ sets (now (out .entry)) at (wordsToBytes (levelPieces n n)) ⌝ }
 {
     let mut to = at;
     let mut left = n;
     while 32767 < left {
-        to = put_word(out, to, 32767);
-        to = put_word(out, to, 0);
+        to = put_next(out, to, 32767);
+        to = put_next(out, to, 0);
         left -= 32767;
     }
-    put_word(out, to, left as u16)
+    put_next(out, to, left as u16)
 }

@@ -1,29 +1,18 @@
 // Type 3: a word for each pixel.
 ghost use mathlib.Core.Path.{_≡_};
 ghost use lib.ListN.{length};
-ghost use Rattle.encode_body.specs.Over.{over};
-ghost use Rattle.encode_body.specs.Bodies.{wordBody};
-use crate::put_word;
-use crate::storing::lesser;
+ghost use Rattle.units.specs.Over.{over};
+ghost use Rattle.codec.specs.WordPixels.{wordBody};
+use units::Bytes;
+use units::Words;
+use units::store_words;
+use units::words_to_bytes;
 
 // Writes each pixel, low byte first.
-pub fn write_words(row: &[u16], out: &mut [u8]) -> usize
-    ensures { λ r. ⌜ r ≡ length (wordBody (now (row .entry))) ⌝ }
+pub fn write_words(row: &[u16], out: &mut [u8]) -> Bytes
+    ensures { λ r. ⌜ r .0 ≡ length (wordBody (now (row .entry))) ⌝ }
     ensures { λ r. ⌜ now (out .exit) ≡ over (wordBody (now (row .entry))) (now (out .entry)) ⌝ }
 {
-    let size = 2 * row.len();
-    // those that fit whole
-    let n = lesser(row.len(), out.len() / 2);
-    let mut i = 0;
-    while i < n {
-        let w = row[i];
-        out[2 * i] = (w % 256) as u8;
-        out[2 * i + 1] = (w / 256) as u8;
-        i += 1;
-    }
-    if n == row.len() {
-        return size;
-    }
-    put_word(out, 2 * n, row[n]);
-    size
+    store_words(row, out);
+    words_to_bytes(Words(row.len()))
 }

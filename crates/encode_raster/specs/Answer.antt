@@ -1,8 +1,8 @@
--- What writing a raster answers, and what is known of a picture on the way.
+-- The picture of a call, and what writing a raster answers.
 use Prim.Native.Nat.{ℕ}
 use mathlib.Core.List.{List}
 use Rattle.encode_raster.specs.declared.WriteAnswer.{WriteAnswer}
-use Rattle.encode_raster.specs.Picture.{Picture}
+use Rattle.encode_header.specs.Picture.{Picture}
 use Rattle.encode_raster.specs.Writing.{WriteNumbers}
 
 abbrev pub picture : ℕ → ℕ → ℕ → ℕ → ℕ → ℕ → List ℕ → List ℕ → Picture
@@ -19,4 +19,4 @@ picture dtc ppl nol slo scn drs table pixels =
     }
 
 abbrev pub writeNumbers : WriteAnswer → WriteNumbers
-writeNumbers r = record { number = r .number; size = r .size }
+writeNumbers r = record { number = r .number; size = r .size .0 }

@@ -3,18 +3,14 @@ use Prim.Native.Nat.{ℕ, zero, suc, _+_}
 use mathlib.Core.Bool.{cond}
 use mathlib.Core.List.{List, [], _∷_, _++_}
 use lib.Dec.{eqb}
-use Rattle.units.specs.Words.{wordCount}
-use Rattle.encode_body.specs.Bodies.{wordsToBytes, byteBody, wordBody, runBody, pairBody}
-use Rattle.encode_raster.specs.Picture.{Picture, rowAt}
-use Rattle.encode_raster.specs.Header.{headerBytes}
-
--- the body of a scanline, by data type
-unfoldable pub bodyBytes : ℕ → ℕ → List ℕ → List ℕ
-bodyBytes t scn row = cond (eqb t 2) (byteBody scn row) (cond (eqb t 3) (wordBody row) (cond (eqb t 9) (runBody row) (pairBody row)))
+use Rattle.units.specs.Words.{wordsToBytes, wordCount}
+use Rattle.codec.specs.Table.{bodyBytes}
+use Rattle.encode_header.specs.Picture.{Picture, rowAt}
+use Rattle.encode_header.specs.Header.{headerBytes}
 
 -- the scanline header: identifier 5900h, words to follow, line number, pixel offset 0
 abbrev pub lineHeader : ℕ → List ℕ → List ℕ
-lineHeader number body = wordsToBytes (0x5900 ∷ ((wordCount body + 2) ∷ (number ∷ (0 ∷ []))))
+lineHeader number body = wordsToBytes (0x5900 ∷ ((wordCount body .0 + 2) ∷ (number ∷ (0 ∷ []))))
 
 unfoldable pub lineBytes : ℕ → ℕ → ℕ → List ℕ → List ℕ
 lineBytes t scn number row = cond (eqb scn 1) (lineHeader number (bodyBytes t scn row) ++ bodyBytes t scn row) (bodyBytes t scn row)

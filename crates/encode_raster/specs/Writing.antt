@@ -4,43 +4,45 @@ use mathlib.Core.Bool.{Bool, false, not, cond, _&&_, _||_}
 use mathlib.Core.List.{List, [], _∷_, _++_}
 use lib.ListN.{length, drop}
 use lib.Dec.{eqb, ltb}
+use Rattle.units.specs.declared.Words.{Words}
+use Rattle.units.specs.Counts.{nWords}
 use Rattle.units.specs.Rules.{Rule, rule, first}
 use Rattle.units.specs.Words.{wordCount}
-use Rattle.header.specs.Rejections.{isDataType}
-use Rattle.encode_raster.specs.Picture.{Picture, picturePixels, rowAt}
-use Rattle.encode_raster.specs.File.{bodyBytes, fileBytes}
-
--- the highest pixel of a data type
-abbrev pub highest : ℕ → ℕ
-highest t = cond (eqb t 9) 1 (cond (eqb t 2) 255 65535)
+use Rattle.codec.specs.Table.{codecOf, bodyBytes}
+use Rattle.limits.specs.Limits.{limitRules}
+use Rattle.encode_header.specs.Picture.{Picture, picturePixels, rowAt}
+use Rattle.encode_raster.specs.File.{fileBytes}
 
 -- some pixel is above m
 unfoldable pub anyAbove : ℕ → List ℕ → Bool
 anyAbove m [] = false
 anyAbove m (x ∷ r) = ltb m x || anyAbove m r
 
--- one of the first k bodies has more than 65,533 words
+-- the most words of a body that a scanline header can count, with the two behind its own count
+abbrev pub mostWords : Words
+mostWords = nWords 65533
+
+-- one of the first k bodies has more
 unfoldable pub anyLong : Picture → ℕ → Bool
 anyLong i zero = false
-anyLong i (suc k) = anyLong i k || ltb 65533 (wordCount (bodyBytes (i .dtc) (i .scn) (rowAt i k)))
+anyLong i (suc k) = anyLong i k || ltb (mostWords .0) (wordCount (bodyBytes (i .dtc) (i .scn) (rowAt i k)) .0)
+
+-- for a table and pixels of these lengths
+abbrev pub lengthRules : ℕ → ℕ → ℕ → ℕ → List Rule
+lengthRules ppl nol table pixels =
+    rule 21 (not (eqb table 0 || eqb table 768)) ∷
+    rule 23 (ltb pixels (nol * ppl)) ∷
+    []
 
 abbrev pub givenRules : Picture → List Rule
 givenRules i =
-    rule 16 (not (isDataType (i .dtc))) ∷
-    rule 17 (ltb 7 (i .slo)) ∷
-    rule 18 (ltb 1 (i .scn)) ∷
-    rule 19 (eqb (i .ppl) 0) ∷
-    rule 19 (ltb 65535 (i .ppl)) ∷
-    rule 20 (eqb (i .nol) 0) ∷
-    rule 20 (ltb 65535 (i .nol)) ∷
-    rule 21 (not (eqb (length (i .table)) 0 || eqb (length (i .table)) 768)) ∷
-    rule 23 (ltb (length (i .pixels)) (i .nol * i .ppl)) ∷
-    []
+    limitRules (i .dtc) (i .slo) (i .scn) (i .ppl) (i .nol)
+    ++ lengthRules (i .ppl) (i .nol) (length (i .table)) (length (i .pixels))
 
 -- for an output of `room` bytes
 abbrev pub pictureRules : Picture → ℕ → List Rule
 pictureRules i room =
-    rule 26 (anyAbove (highest (i .dtc)) (picturePixels i)) ∷
+    rule 26 (anyAbove (codecOf (i .dtc) .highest) (picturePixels i)) ∷
     rule 27 (eqb (i .scn) 1 && anyLong i (i .nol)) ∷
     rule 10 (ltb 2147483647 (length (fileBytes i))) ∷
     rule 28 (ltb room (length (fileBytes i))) ∷

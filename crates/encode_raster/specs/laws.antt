@@ -1,12 +1,9 @@
 pub mod Accepting
 pub mod Answer
 pub mod Bounds
-pub mod Header
 pub mod Limits
 pub mod Line
 pub mod Lines
 pub mod Measuring
-pub mod Parts
 pub mod Plan
-pub mod Resolution
 pub mod Whole

@@ -2,50 +2,47 @@
 //
 // A rejected call changes nothing. Otherwise the file's bytes are put at the start of the output, and what lies behind
 // them is left as it was. All lengths are known before a byte is stored.
-mod body;
-mod head;
-mod limits;
-mod resolution;
+mod given;
 
 ghost use mathlib.Core.Path.{_≡_};
 ghost use mathlib.Core.Bool.{_&&_, _||_};
 ghost use mathlib.Core.List.{[], _∷_, _++_};
-ghost use Prim.Native.Nat.{_≤_, _/_};
+ghost use Prim.Native.Nat.{_≤_};
 ghost use lib.ListN.{length, drop};
 ghost use lib.Dec.{eqb, ltb};
+ghost use Rattle.units.specs.Counts.{nBlocks, nBytes, bytesOfBlocks};
+ghost use Rattle.units.specs.Over.{over};
 ghost use Rattle.units.specs.Rules.{first};
-ghost use Rattle.encode_body.specs.Bodies.{wordsToBytes};
+ghost use Rattle.units.specs.Words.{wordsToBytes};
 ghost use Rattle.encode_raster.specs.File.{lineBytes, linesOf};
-ghost use Rattle.encode_raster.specs.Writing.{writing, outAfter};
+ghost use Rattle.encode_raster.specs.Writing.{mostWords, writing, outAfter};
 ghost use Rattle.encode_raster.specs.Answer.{picture, writeNumbers};
-ghost use Rattle.encode_raster.specs.laws.Answer.{bare, headSize, tableSize, planRules, planSize, Within, Measured, LineFits, LinesFit};
-use body::body_size;
-use body::write_body;
-pub use head::write_header;
-use limits::any_above;
-use limits::field_rejection;
-use limits::highest;
-pub use resolution::drs_bits;
+ghost use Rattle.encode_raster.specs.laws.Answer.{bare, headSize, planRules, planSize, Within, Measured, LineFits, LinesFit};
+use encode_body::body_size;
+use encode_body::highest;
+use encode_body::write_body;
+use encode_header::Job;
+use encode_header::header_size;
+use encode_header::write_header;
+use given::any_above;
+use given::field_rejection;
+use units::Bytes;
+use units::Words;
+use units::bytes_to_words;
+use units::store_words;
 
-// What is written, within the format's limits: the fields by the format's names, DRS as its 16 stored bits.
-pub struct Job {
-    pub dtc: u16,
-    pub ppl: u32,
-    pub nol: u32,
-    pub slo: u8,
-    pub scn: u8,
-    pub drs: u16,
-}
+// The most words of a body that a scanline header can count.
+const MOST_WORDS: Words = Words(65533);
 
 // The number of the rejection or 0, and the written length, 0 where nothing is written.
 pub struct WriteAnswer {
     pub number: u16,
-    pub size: usize,
+    pub size: Bytes,
 }
 
 // The bytes of all scanlines, and whether a body is too long for a scanline header to count.
 pub struct Measure {
-    pub size: usize,
+    pub size: Bytes,
     pub long: bool,
 }
 
@@ -76,21 +73,21 @@ pub fn write_raster(
         scn: scn as u8,
         drs,
     };
-    let plan = plan_file(job, table_size(table.len()), pixels, out.len());
+    let plan = plan_file(job, header_size(table), pixels, out.len());
     if plan.number != 0 {
         return plan;
     }
-    let start = write_header(job, table, out);
+    let start = write_header(job, table, out).0;
     write_lines(job, pixels, &mut out[start..]);
     plan
 }
 
-// 26, 27, 10 and 28, or 0 and the file's length. `head` is the length of its header.
-fn plan_file(job: Job, head: usize, pixels: &[u16], room: usize) -> WriteAnswer
+// 26, 27, 10 and 28, or 0 and the file's length, for a header of `head` bytes and an output of `room`.
+fn plan_file(job: Job, head: Bytes, pixels: &[u16], room: usize) -> WriteAnswer
     requires { ⌜ Within job (now pixels) ⌝ }
-    requires { ⌜ head ≤ 1536 ⌝ }
-    ensures { λ r. ⌜ r .number ≡ first (planRules job (now (pixels .entry)) head room) ⌝ }
-    ensures { λ r. ⌜ r .size ≡ planSize (r .number) job (now (pixels .entry)) head ⌝ }
+    requires { ⌜ head .0 ≤ bytesOfBlocks (nBlocks 3) .0 ⌝ }
+    ensures { λ r. ⌜ r .number ≡ first (planRules job (now (pixels .entry)) (head .0) room) ⌝ }
+    ensures { λ r. ⌜ r .size .0 ≡ planSize (r .number) job (now (pixels .entry)) (head .0) ⌝ }
 {
     let end = (job.nol as usize) * (job.ppl as usize);
     if any_above(&pixels[0..end], highest(job.dtc)) {
@@ -100,14 +97,17 @@ fn plan_file(job: Job, head: usize, pixels: &[u16], room: usize) -> WriteAnswer
     if uncounted(job.scn, lines.long) {
         return rejected(27);
     }
-    let size = head + lines.size;
+    let size = head.0 + lines.size.0;
     if 2147483647 < size {
         return rejected(10);
     }
     if room < size {
         return rejected(28);
     }
-    WriteAnswer { number: 0, size }
+    WriteAnswer {
+        number: 0,
+        size: Bytes(size),
+    }
 }
 
 // 27: a scanline header is to count a body that is too long for it.
@@ -122,16 +122,12 @@ fn uncounted(scn: u8, long: bool) -> bool
 
 // Nothing is written.
 fn rejected(number: u16) -> WriteAnswer
-    ensures { λ r. ⌜ r ≡ record { number = number; size = 0 } ⌝ }
+    ensures { λ r. ⌜ r ≡ record { number = number; size = nBytes 0 } ⌝ }
 {
-    WriteAnswer { number, size: 0 }
-}
-
-// The length of a header with a table of this many bytes.
-fn table_size(table: usize) -> usize
-    ensures { λ r. ⌜ r ≡ tableSize table ⌝ }
-{
-    if table == 0 { 1024 } else { 1536 }
+    WriteAnswer {
+        number,
+        size: Bytes(0),
+    }
 }
 
 // Measures the scanlines before one is written.
@@ -141,7 +137,7 @@ fn measure_lines(job: Job, pixels: &[u16]) -> Measure
 {
     let p = job.ppl as usize;
     let n = job.nol as usize;
-    let head = line_head(job.scn);
+    let head = line_head(job.scn).0;
     let mut size = 0;
     let mut long = false;
     let mut k = 0;
@@ -149,28 +145,31 @@ fn measure_lines(job: Job, pixels: &[u16]) -> Measure
         let from = k * p;
         let to = from + p;
         let body = body_size(job.dtc, job.scn, &pixels[from..to]);
-        size += head + body;
-        long = or_long(long, body);
+        size += head + body.0;
+        long = or_long(long, bytes_to_words(body));
         k += 1;
     }
-    Measure { size, long }
+    Measure {
+        size: Bytes(size),
+        long,
+    }
 }
 
 // The bytes of a scanline header, where there are any.
-fn line_head(scn: u8) -> usize
-    ensures { λ r. ⌜ r ≡ headSize scn ⌝ }
+fn line_head(scn: u8) -> Bytes
+    ensures { λ r. ⌜ r .0 ≡ headSize scn ⌝ }
 {
-    if scn == 1 { 8 } else { 0 }
+    if scn == 1 { Bytes(8) } else { Bytes(0) }
 }
 
 // Whether a body is too long, this one or one before it.
-fn or_long(long: bool, body: usize) -> bool
-    ensures { λ r. ⌜ r ≡ (long || ltb 65533 (body / 2)) ⌝ }
+fn or_long(long: bool, body: Words) -> bool
+    ensures { λ r. ⌜ r ≡ (long || ltb (mostWords .0) (body .0)) ⌝ }
 {
     if long {
         return true;
     }
-    65533 < body / 2
+    MOST_WORDS.0 < body.0
 }
 
 // Writes the scanlines one after the other.
@@ -188,36 +187,30 @@ fn write_lines(job: Job, pixels: &[u16], out: &mut [u8])
         let to = from + p;
         let number = (k + 1) as u16;
         let size = write_line(job, number, &pixels[from..to], &mut out[at..]);
-        at += size;
+        at += size.0;
         k += 1;
     }
 }
 
 // Writes one scanline: its body, and before it a header where there are headers. Answers its length.
-fn write_line(job: Job, number: u16, row: &[u16], out: &mut [u8]) -> usize
+fn write_line(job: Job, number: u16, row: &[u16], out: &mut [u8]) -> Bytes
     requires { ⌜ LineFits (job .dtc) (job .scn) number (now row) (now out) ⌝ }
-    ensures { λ r. ⌜ r ≡ length (lineBytes (job .dtc) (job .scn) number (now (row .entry))) ⌝ }
+    ensures { λ r. ⌜ r .0 ≡ length (lineBytes (job .dtc) (job .scn) number (now (row .entry))) ⌝ }
     ensures { λ r. ⌜ now (out .exit) ≡ lineBytes (job .dtc) (job .scn) number (now (row .entry)) ++ drop (length (lineBytes (job .dtc) (job .scn) number (now (row .entry)))) (now (out .entry)) ⌝ }
 {
     if job.scn != 1 {
         return write_body(job.dtc, job.scn, row, out);
     }
     let body = write_body(job.dtc, job.scn, row, &mut out[8..]);
-    put_line_header((body / 2 + 2) as u16, number, out);
-    8 + body
+    let follow = bytes_to_words(body).0 + 2;
+    put_line_header(follow as u16, number, out);
+    Bytes(8 + body.0)
 }
 
 // A scanline header: the identifier, the words to follow, the line number and the pixel offset 0.
 fn put_line_header(follow: u16, number: u16, out: &mut [u8])
-    requires { ⌜ 8 ≤ length (now out) ⌝ }
-    ensures { λ _. ⌜ now (out .exit) ≡ wordsToBytes (0x5900 ∷ (follow ∷ (number ∷ (0 ∷ [])))) ++ drop 8 (now (out .entry)) ⌝ }
+    ensures { λ _. ⌜ now (out .exit) ≡ over (wordsToBytes (0x5900 ∷ (follow ∷ (number ∷ (0 ∷ []))))) (now (out .entry)) ⌝ }
 {
-    out[0] = 0;
-    out[1] = 0x59;
-    out[2] = (follow % 256) as u8;
-    out[3] = (follow / 256) as u8;
-    out[4] = (number % 256) as u8;
-    out[5] = (number / 256) as u8;
-    out[6] = 0;
-    out[7] = 0;
+    let words = [0x5900, follow, number, 0];
+    store_words(&words, out);
 }

@@ -1,9 +1,11 @@
 -- "The sheet's header": the fields at their bytes, the header's length in blocks, and the resolution.
-use Prim.Native.Nat.{ℕ, _+_, _-_, _/_}
+use Prim.Native.Nat.{ℕ, _+_, _-_}
 use mathlib.Core.Bool.{cond}
 use mathlib.Core.List.{List}
 use lib.Dec.{eqb, ltb}
 use Rattle.units.specs.declared.Blocks.{Blocks}
+use Rattle.units.specs.declared.Words.{Words}
+use Rattle.units.specs.Counts.{nWords, blocksOfWords}
 use Rattle.units.specs.LittleEndian.{byteAt, u16At, u32At}
 use Rattle.header.specs.declared.fields.Fields.{Fields}
 use Rattle.header.specs.declared.fields.Resolution.{Resolution}
@@ -13,7 +15,7 @@ abbrev pub fieldsOf : List ℕ → Fields
 fieldsOf f =
     record {
       htc = u16At f 0;
-      wtf = u16At f 2;
+      wtf = nWords (u16At f 2);
       dtc = u16At f 4;
       ppl = u32At f 184;
       nol = u32At f 188;
@@ -25,9 +27,13 @@ fieldsOf f =
       cte = u32At f 536;
     }
 
--- A header of n blocks has WTF = 256n - 2. This is the only n that can: the table of rejections says whether it does.
+-- WTF counts the words of the header that follow its first two, HTC and WTF itself
+abbrev pub headerWords : Fields → Words
+headerWords h = nWords (h .wtf .0 + 2)
+
+-- The whole blocks of these words. No other number of blocks can have this WTF: the table of rejections says whether this one does.
 abbrev pub headerBlocks : Fields → Blocks
-headerBlocks h = record { 0 = (h .wtf + 2) / 256 }
+headerBlocks h = blocksOfWords (headerWords h)
 
 -- The paper's numbers of a resolution: 0 none, 1 microns, 2 dots per inch, and its size.
 pub record ResolutionNumbers : Type 0 where

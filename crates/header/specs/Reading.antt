@@ -7,7 +7,7 @@ use Rattle.header.specs.declared.fields.Fields.{Fields}
 use Rattle.header.specs.declared.fields.HeaderAnswer.{HeaderAnswer}
 use Rattle.header.specs.declared.fields.HeaderAnswer.the-variants.{Rejected, Accepted}
 use Rattle.header.specs.Fields.{fieldsOf, headerBlocks, resolution, resolutionNumbers, resolutionOf, ResolutionNumbers}
-use Rattle.header.specs.Rejections.{rejection}
+use Rattle.header.specs.Rejections.{rejectionTo22}
 
 -- the number of the rejection or 0, and the fields in the paper's order
 pub record HeaderNumbers : Type 0 where
@@ -55,7 +55,7 @@ fieldNumbers h =
 
 -- the reading of a header
 abbrev pub headerReading : List ℕ → HeaderNumbers
-headerReading f = cond (eqb (rejection f) 0) (fieldNumbers (fieldsOf f)) (rejectedNumbers (rejection f))
+headerReading f = cond (eqb (rejectionTo22 f) 0) (fieldNumbers (fieldsOf f)) (rejectedNumbers (rejectionTo22 f))
 
 -- the paper's numbers of an answer
 abbrev pub headerNumbers : HeaderAnswer → HeaderNumbers

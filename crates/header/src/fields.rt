@@ -1,17 +1,21 @@
 // The header's fields as stored, and the answer of reading a header.
 ghost use mathlib.Core.Path.{_≡_};
-ghost use Rattle.header.specs.Fields.{fieldsOf, headerBlocks, resolutionNumbers, resolutionOf};
+ghost use Rattle.units.specs.Counts.{bytesOfBlocks};
+ghost use Rattle.header.specs.Fields.{fieldsOf, headerWords, headerBlocks, resolutionNumbers, resolutionOf};
 ghost use Rattle.header.specs.Reading.{headerNumbers, headerReading, fieldNumbers};
-use crate::rejection::rejection_of;
+use crate::rejection::rejection_to_22;
 use units::Blocks;
+use units::Words;
+use units::blocks_to_bytes;
 use units::byte_at;
 use units::u16_at;
 use units::u32_at;
+use units::words_to_blocks;
 
 // The fields that are looked at, by the format's names.
 pub struct Fields {
     pub htc: u16,
-    pub wtf: u16,
+    pub wtf: Words,
     pub dtc: u16,
     pub ppl: u32,
     pub nol: u32,
@@ -51,11 +55,11 @@ pub enum HeaderAnswer {
 pub fn read_header(file: &[u8]) -> HeaderAnswer
     ensures { λ r. ⌜ headerNumbers r ≡ headerReading (now (file .entry)) ⌝ }
 {
-    let number = rejection_of(file);
+    let number = rejection_to_22(file);
     if number != 0 {
         return HeaderAnswer::Rejected(number);
     }
-    accepted(fields_of(file))
+    accepted(fields_of(file), header_blocks(file))
 }
 
 // The fields of any file. Those past its end read as 0.
@@ -64,7 +68,7 @@ pub fn fields_of(file: &[u8]) -> Fields
 {
     Fields {
         htc: u16_at(file, 0),
-        wtf: u16_at(file, 2),
+        wtf: Words(u16_at(file, 2) as usize),
         dtc: u16_at(file, 4),
         ppl: u32_at(file, 184),
         nol: u32_at(file, 188),
@@ -77,11 +81,25 @@ pub fn fields_of(file: &[u8]) -> Fields
     }
 }
 
-// The blocks that a header with these words to follow would have.
-pub fn header_blocks(h: Fields) -> Blocks
-    ensures { λ r. ⌜ r ≡ headerBlocks h ⌝ }
+// The words of a header: WTF counts those that follow the first two.
+pub fn header_words(file: &[u8]) -> Words
+    ensures { λ r. ⌜ r .0 ≡ headerWords (fieldsOf (now (file .entry))) .0 ⌝ }
 {
-    Blocks((((h.wtf as u32) + 2) / 256) as u16)
+    Words((u16_at(file, 2) as usize) + 2)
+}
+
+// The whole blocks of a header.
+pub fn header_blocks(file: &[u8]) -> Blocks
+    ensures { λ r. ⌜ r .0 ≡ headerBlocks (fieldsOf (now (file .entry))) .0 ⌝ }
+{
+    words_to_blocks(header_words(file))
+}
+
+// The byte where raster data begin: after the header's blocks.
+pub fn data_start(file: &[u8]) -> usize
+    ensures { λ r. ⌜ r ≡ bytesOfBlocks (headerBlocks (fieldsOf (now (file .entry)))) .0 ⌝ }
+{
+    blocks_to_bytes(header_blocks(file)).0
 }
 
 // What a stored DRS says. It is a signed number; its size as dots per inch may be 32,768.
@@ -97,12 +115,14 @@ fn resolution_of(drs: u16) -> Resolution
     Resolution::DotsPerInch((65536 - (drs as u32)) as u16)
 }
 
-fn accepted(h: Fields) -> HeaderAnswer
+// The answer of a file that is not rejected, with the blocks of its header.
+fn accepted(h: Fields, blocks: Blocks) -> HeaderAnswer
+    requires { ⌜ blocks .0 ≡ headerBlocks h .0 ⌝ }
     ensures { λ r. ⌜ headerNumbers r ≡ fieldNumbers h ⌝ }
 {
     HeaderAnswer::Accepted(Header {
         data_type: h.dtc,
-        blocks: header_blocks(h),
+        blocks,
         ppl: h.ppl,
         nol: h.nol,
         resolution: resolution_of(h.drs),

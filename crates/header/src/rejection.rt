@@ -1,56 +1,63 @@
-// The rejections of a file, in the order of the table. Each function answers the number of the first row of its part of
+// The rejections of a file, in the order of the table. Each function answers the number of the first rule of its part of
 // the table that holds, or 0.
 ghost use mathlib.Core.Path.{_≡_};
 ghost use Rattle.units.specs.Rules.{first};
-ghost use Rattle.header.specs.Rejections.{frameRules, limitRules, colorTableRules, isDataType, rejection, sharesSlot, slotOccurs, entryStart, slotAt};
+ghost use Rattle.header.specs.Fields.{headerWords, headerBlocks};
+ghost use Rattle.header.specs.Rejections.{frameRules, colorTableRules, rejectionTo22, sharesSlot, slotOccurs, entryStart, slotAt};
 use crate::fields::Fields;
 use crate::fields::fields_of;
 use crate::fields::header_blocks;
+use crate::fields::header_words;
+use limits::limit_rejection;
+use units::Blocks;
+use units::Bytes;
 use units::Words;
 use units::blocks_to_bytes;
 use units::blocks_to_words;
 use units::u16_at;
 use units::words_to_bytes;
 
-// The number a file is rejected with, or 0.
-pub fn rejection_of(file: &[u8]) -> u16
-    ensures { λ r. ⌜ r ≡ rejection (now (file .entry)) ⌝ }
+// The number up to 22 that a file is rejected with, or 0.
+pub fn rejection_to_22(file: &[u8]) -> u16
+    ensures { λ r. ⌜ r ≡ rejectionTo22 (now (file .entry)) ⌝ }
 {
     let h = fields_of(file);
-    let frame = frame_rejection(file.len(), h);
+    let blocks = header_blocks(file);
+    let frame = frame_rejection(Bytes(file.len()), h, header_words(file), blocks);
     if frame != 0 {
         return frame;
     }
-    let field = field_rejection(h);
-    if field != 0 {
-        return field;
+    let limit = limit_rejection(h.dtc as u32, h.slo as u32, h.scn as u32, h.ppl, h.nol);
+    if limit != 0 {
+        return limit;
     }
-    table_rejection(file, h)
+    table_rejection(file, h, blocks)
 }
 
 // 10 to 15: the file's length, the header's marks and its length.
-fn frame_rejection(size: usize, h: Fields) -> u16
+fn frame_rejection(size: Bytes, h: Fields, words: Words, blocks: Blocks) -> u16
+    requires { ⌜ words .0 ≡ headerWords h .0 ⌝ }
+    requires { ⌜ blocks .0 ≡ headerBlocks h .0 ⌝ }
     ensures { λ r. ⌜ r ≡ first (frameRules size h) ⌝ }
 {
-    let blocks = header_blocks(h);
-    let words = blocks_to_words(blocks);
+    let whole = blocks_to_words(blocks);
     let bytes = blocks_to_bytes(blocks);
-    if 2147483647 < size {
+    if 2147483647 < size.0 {
         return 10;
     }
-    if size < 1024 {
+    if size.0 < 1024 {
         return 11;
     }
     if h.htc != 0x0908 {
         return 12;
     }
-    if words.0 != (h.wtf as u32) + 2 {
+    if whole.0 != words.0 {
         return 13;
     }
     if blocks.0 < 2 {
         return 13;
     }
-    if size < bytes.0 {
+    if size.0 < bytes.0 {
         return 14;
     }
     if h.ver != 3 {
@@ -59,57 +66,11 @@ fn frame_rejection(size: usize, h: Fields) -> u16
     0
 }
 
-// 16 to 20: fields within their limits.
-fn field_rejection(h: Fields) -> u16
-    ensures { λ r. ⌜ r ≡ first (limitRules h) ⌝ }
-{
-    if !is_data_type(h.dtc) {
-        return 16;
-    }
-    if 7 < h.slo {
-        return 17;
-    }
-    if 1 < h.scn {
-        return 18;
-    }
-    if h.ppl == 0 {
-        return 19;
-    }
-    if 65535 < h.ppl {
-        return 19;
-    }
-    if h.nol == 0 {
-        return 20;
-    }
-    if 65535 < h.nol {
-        return 20;
-    }
-    0
-}
-
-fn is_data_type(dtc: u16) -> bool
-    ensures { λ r. ⌜ r ≡ isDataType dtc ⌝ }
-{
-    if dtc == 2 {
-        return true;
-    }
-    if dtc == 3 {
-        return true;
-    }
-    if dtc == 9 {
-        return true;
-    }
-    if dtc == 10 {
-        return true;
-    }
-    false
-}
-
 // 21 and 22: a color table of a known kind, within the header, whose slots are distinct.
-fn table_rejection(file: &[u8], h: Fields) -> u16
+fn table_rejection(file: &[u8], h: Fields, blocks: Blocks) -> u16
+    requires { ⌜ blocks .0 ≡ headerBlocks h .0 ⌝ }
     ensures { λ r. ⌜ r ≡ first (colorTableRules (now (file .entry)) h) ⌝ }
 {
-    let blocks = header_blocks(h);
     if 2 < h.ctv {
         return 21;
     }
@@ -144,7 +105,7 @@ fn table_rejection(file: &[u8], h: Fields) -> u16
 pub fn entry_start(i: u16) -> usize
     ensures { λ r. ⌜ r ≡ entryStart i ⌝ }
 {
-    768 + words_to_bytes(Words(4 * (i as u32))).0
+    768 + words_to_bytes(Words(4 * (i as usize))).0
 }
 
 pub fn slot_at(file: &[u8], i: u16) -> u16

@@ -2,12 +2,13 @@
 use Prim.Native.Nat.{ℕ, _*_}
 use mathlib.Core.Path.{_≡_}
 use mathlib.Core.List.{List, _++_}
-use lib.ListN.{length, take, drop, replicate}
+use Rattle.units.specs.Over.{zeros}
+use lib.ListN.{length, take, drop}
 use Rattle.header.specs.Reading.{headerReading}
 use Rattle.color.specs.Color.{colorReading}
 use Rattle.layout.specs.Reading.{RasterNumbers, rasterReading, pixelsAfter, marksAfter}
 use Rattle.decode_raster.specs.Answer.{rasterNumbers}
-use Rattle.encode_raster.specs.Picture.{Picture, picturePixels}
+use Rattle.encode_header.specs.Picture.{Picture, picturePixels}
 use Rattle.encode_raster.specs.Writing.{writing, outAfter}
 use Rattle.encode_raster.specs.Answer.{writeNumbers}
 use Rattle.read_back.specs.Statement.{givenHeader, givenColor}
@@ -15,7 +16,7 @@ use Rattle.round_trip.specs.declared.RoundTrip.{RoundTrip}
 
 -- the written file: as many bytes of the output as the writer says
 abbrev pub written : RoundTrip → List ℕ → List ℕ
-written r out = take (r .written .size) out
+written r out = take (r .written .size .0) out
 
 -- the writer's call; and where it rejects the picture nothing is read, else what was written is
 pub record BothCalls (i : Picture) (out back marks : List ℕ) (r : RoundTrip) (out′ back′ marks′ : List ℕ) : Type 0 where
@@ -31,8 +32,8 @@ given i n = record { answer = 0; good = i .nol; end = n }
 -- those of the table, and the buffer holds the pixels given and then what was there.
 pub record GivenBack (i : Picture) (back marks : List ℕ) (r : RoundTrip) (out′ back′ marks′ : List ℕ) : Type 0 where
   pub wrote : r .written .number ≡ 0
-  pub answer : rasterNumbers (r .read) ≡ given i (r .written .size)
-  pub marks-are : marks′ ≡ replicate (i .nol) 0 ++ drop (i .nol) marks
+  pub answer : rasterNumbers (r .read) ≡ given i (r .written .size .0)
+  pub marks-are : marks′ ≡ zeros (i .nol) ++ drop (i .nol) marks
   pub pixels-are : back′ ≡ picturePixels i ++ drop (i .nol * i .ppl) back
   pub header : headerReading (written r out′) ≡ givenHeader i
   pub colors : (v : ℕ) → colorReading (written r out′) v ≡ givenColor i v

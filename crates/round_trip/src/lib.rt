@@ -47,7 +47,7 @@ pub fn write_and_read(
             },
         };
     }
-    let size = written.size;
+    let size = written.size.0;
     let read = read_raster(&out[..size], back, marks);
     RoundTrip { written, read }
 }

@@ -3,11 +3,8 @@
 // Each function puts its text at a position and answers the position after it. Where the text does not fit, nothing is
 // stored and the position stays.
 ghost use mathlib.Core.Path.{_≡_};
-ghost use Prim.Native.Nat.{_-_, _≤_};
-ghost use lib.ListN.{length};
-ghost use lib.Seq.{paste};
-ghost use Rattle.io.specs.Digits.{digits, Fewest};
 ghost use Rattle.text.specs.Put.{putAt, nextAt, DecimalPut};
+use slices::copy;
 
 pub fn put(out: &mut [u8], at: usize, text: &[u8]) -> usize
     ensures { λ r. ⌜ r ≡ nextAt (now (out .entry)) at (now (text .entry)) ⌝ }
@@ -19,7 +16,7 @@ pub fn put(out: &mut [u8], at: usize, text: &[u8]) -> usize
     if out.len() - at < text.len() {
         return at;
     }
-    copy(out, at, text);
+    copy(text, &mut out[at..]);
     at + text.len()
 }
 
@@ -38,16 +35,4 @@ pub fn put_field(out: &mut [u8], at: usize, name: &[u8], n: u64) -> usize
 {
     let next = put(out, at, name);
     put_decimal(out, next, n)
-}
-
-fn copy(out: &mut [u8], at: usize, text: &[u8])
-    requires { ⌜ at ≤ length (now out) ⌝ }
-    requires { ⌜ length (now text) ≤ length (now out) - at ⌝ }
-    ensures { λ _. ⌜ now (out .exit) ≡ paste (now (out .entry)) at (now (text .entry)) (length (now (text .entry))) ⌝ }
-{
-    let mut i = 0;
-    while i < text.len() {
-        out[at + i] = text[i];
-        i += 1;
-    }
 }

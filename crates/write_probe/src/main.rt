@@ -10,6 +10,7 @@ use libc::STDIN_FILENO;
 use libc::STDOUT_FILENO;
 use text::put;
 use text::put_field;
+use units::load_words;
 use units::u32_at;
 use units::word_count;
 
@@ -60,11 +61,11 @@ fn run_within(input: &[u8], pixels: &mut [u16], out: &mut [u8]) {
         io::write_all(STDOUT_FILENO, b"short\n");
         return;
     }
-    if word_count(&input[from..]) < pixels.len() {
+    if word_count(&input[from..]).0 < pixels.len() {
         io::write_all(STDOUT_FILENO, b"short\n");
         return;
     }
-    decode_body::take_words(&input[from..], pixels);
+    load_words(&input[from..], pixels);
     fill_bytes(out, (u32_at(input, 36) % 256) as u8);
     write_given(input, &input[40..from], pixels, out);
 }
@@ -97,7 +98,7 @@ fn put_answer(out: &mut [u8], answer: WriteAnswer) -> usize {
         let at = put_field(out, 0, b"refused ", answer.number as u64);
         return put(out, at, b"\n");
     }
-    let at = put_field(out, 0, b"written ", answer.size as u64);
+    let at = put_field(out, 0, b"written ", answer.size.0 as u64);
     put(out, at, b"\n")
 }
 

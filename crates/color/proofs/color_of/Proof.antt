@@ -6,14 +6,14 @@ use mathlib.Core.Path.{_≡_, sym, _∙_, ap}
 use borrow.Author.Needs.{needs}
 use Rattle.color.specs.Color.{ColorNumbers, colorReading, noColor, grayColor, igdsColor, environColor}
 use Rattle.header.specs.laws.Accepted.{Accepted, accepted}
-use Rattle.header.specs.Rejections.{rejection}
+use Rattle.header.specs.Rejections.{rejectionTo22}
 use Rattle.header.specs.Fields.{fieldsOf}
 use Rattle.header.specs.declared.fields.Fields.{Fields}
 use Rattle.color.proofs.color_of.Statement.{statement}
 use Rattle.color.proofs.color_of.Tie as tie
 
 -- the color by each kind of table, of a file that is not rejected
-module _ (f : List ℕ) (v : ℕ) {n : ℕ} {h : Fields} (number : n ≡ rejection f) (none : n ≡ 0) (read : h ≡ fieldsOf f) where
+module _ (f : List ℕ) (v : ℕ) {n : ℕ} {h : Fields} (number : n ≡ rejectionTo22 f) (none : n ≡ 0) (read : h ≡ fieldsOf f) where
   ctv-is : h .ctv ≡ fieldsOf f .ctv
   ctv-is = ap (λ (x : Fields). x .ctv) read
 
@@ -21,10 +21,10 @@ module _ (f : List ℕ) (v : ℕ) {n : ℕ} {h : Fields} (number : n ≡ rejecti
   cte-is = ap (λ (x : Fields). x .cte) read
 
   by-gray : h .ctv ≡ 0 → {r : ColorNumbers} → r ≡ grayColor v → r ≡ colorReading f v
-  by-gray e a = rw (eq-eqb (rejection f) 0 (sym number ∙ none), eq-eqb (fieldsOf f .ctv) 0 (sym ctv-is ∙ e)) a
+  by-gray e a = rw (eq-eqb (rejectionTo22 f) 0 (sym number ∙ none), eq-eqb (fieldsOf f .ctv) 0 (sym ctv-is ∙ e)) a
 
   by-igds : h .ctv ≡ 1 → {r : ColorNumbers} → r ≡ igdsColor f v → r ≡ colorReading f v
-  by-igds e a = rw (eq-eqb (rejection f) 0 (sym number ∙ none), sym ctv-is ∙ e) a
+  by-igds e a = rw (eq-eqb (rejectionTo22 f) 0 (sym number ∙ none), sym ctv-is ∙ e) a
 
   module _ (not-0 : h .ctv ≡ 0 → ⊥) (not-1 : h .ctv ≡ 1 → ⊥) where
     few-entries : h .cte ≤ 256
@@ -36,54 +36,39 @@ module _ (f : List ℕ) (v : ℕ) {n : ℕ} {h : Fields} (number : n ≡ rejecti
     by-environ : {r : ColorNumbers} → r ≡ environColor f (h .cte) v → r ≡ colorReading f v
     by-environ a =
         rw (
-          eq-eqb (rejection f) 0 (sym number ∙ none),
+          eq-eqb (rejectionTo22 f) 0 (sym number ∙ none),
           ne-eqb (fieldsOf f .ctv) 0 (λ z. not-0 (ctv-is ∙ z)),
           ne-eqb (fieldsOf f .ctv) 1 (λ z. not-1 (ctv-is ∙ z)),
           ← cte-is,
         )
         a
 
-rejection-of-requires : tie.Need-rejection-of-requires
-rejection-of-requires c κs = search needs
-
 returns : tie.Need-returns
-returns c = rw (ne-eqb (rejection (c .before .before .before .args .file .now)) 0 (λ z. c .if1 .taken (c .before .rejection-of .ensures ∙ z))) (ap noColor (c .before .rejection-of .ensures))
-
-fields-of-requires : tie.Need-fields-of-requires
-fields-of-requires c κs = search needs
-
-gray-color-requires : tie.Need-gray-color-requires
-gray-color-requires c κs = search needs
+returns c = rw (ne-eqb (rejectionTo22 (c .before .before .before .args .file .now)) 0 (λ z. c .if1 .taken (c .before .rejection-to-22 .ensures ∙ z))) (ap noColor (c .before .rejection-to-22 .ensures))
 
 returns-2 : tie.Need-returns-2
-returns-2 c = by-gray (c .before .before .before .before .before .before .before .args .file .now) (c .before .before .before .before .before .before .before .args .value) (c .before .before .before .before .before .rejection-of .ensures) (c .before .before .before .before .if1 .left) (c .before .before .before .fields-of .ensures) (c .before .if2 .taken) (c .gray-color .ensures)
-
-igds-color-requires : tie.Need-igds-color-requires
-igds-color-requires c κs = search needs
+returns-2 c = by-gray (c .before .before .before .before .before .before .before .args .file .now) (c .before .before .before .before .before .before .before .args .value) (c .before .before .before .before .before .rejection-to-22 .ensures) (c .before .before .before .before .if1 .left) (c .before .before .before .fields-of .ensures) (c .before .if2 .taken) (c .gray-color .ensures)
 
 returns-3 : tie.Need-returns-3
-returns-3 c = by-igds (c .before .before .before .before .before .before .before .before .before .args .file .now) (c .before .before .before .before .before .before .before .before .before .args .value) (c .before .before .before .before .before .before .before .rejection-of .ensures) (c .before .before .before .before .before .before .if1 .left) (c .before .before .before .before .before .fields-of .ensures) (c .before .if3 .taken) (c .igds-color .ensures)
+returns-3 c = by-igds (c .before .before .before .before .before .before .before .before .before .args .file .now) (c .before .before .before .before .before .before .before .before .before .args .value) (c .before .before .before .before .before .before .before .rejection-to-22 .ensures) (c .before .before .before .before .before .before .if1 .left) (c .before .before .before .before .before .fields-of .ensures) (c .before .if3 .taken) (c .igds-color .ensures)
 
 cast-environ-color : tie.Need-cast-environ-color
-cast-environ-color c = omega (arith, few-entries (c .before .before .before .before .before .before .before .before .before .args .file .now) (c .before .before .before .before .before .before .before .before .before .args .value) (c .before .before .before .before .before .before .before .rejection-of .ensures) (c .before .before .before .before .before .before .if1 .left) (c .before .before .before .before .before .fields-of .ensures) (c .before .before .before .if2 .left) (c .before .if3 .left))
-
-environ-color-requires : tie.Need-environ-color-requires
-environ-color-requires c κs = search needs
+cast-environ-color c = omega (arith, few-entries (c .before .before .before .before .before .before .before .before .before .args .file .now) (c .before .before .before .before .before .before .before .before .before .args .value) (c .before .before .before .before .before .before .before .rejection-to-22 .ensures) (c .before .before .before .before .before .before .if1 .left) (c .before .before .before .before .before .fields-of .ensures) (c .before .before .before .if2 .left) (c .before .if3 .left))
 
 returns-4 : tie.Need-returns-4
-returns-4 c = by-environ (c .before .before .before .before .before .before .before .before .before .before .args .file .now) (c .before .before .before .before .before .before .before .before .before .before .args .value) (c .before .before .before .before .before .before .before .before .rejection-of .ensures) (c .before .before .before .before .before .before .before .if1 .left) (c .before .before .before .before .before .before .fields-of .ensures) (c .before .before .before .before .if2 .left) (c .before .before .if3 .left) (c .environ-color .ensures)
+returns-4 c = by-environ (c .before .before .before .before .before .before .before .before .before .before .args .file .now) (c .before .before .before .before .before .before .before .before .before .before .args .value) (c .before .before .before .before .before .before .before .before .rejection-to-22 .ensures) (c .before .before .before .before .before .before .before .if1 .left) (c .before .before .before .before .before .before .fields-of .ensures) (c .before .before .before .before .if2 .left) (c .before .before .if3 .left) (c .environ-color .ensures)
 
 pub color-of-spec : {M : Type 1} → statement M
 color-of-spec =
     tie.close
     (tie.spec
-    rejection-of-requires
+    (λ c κs. search needs)
     returns
-    fields-of-requires
-    gray-color-requires
+    (λ c κs. search needs)
+    (λ c κs. search needs)
     returns-2
-    igds-color-requires
+    (λ c κs. search needs)
     returns-3
     cast-environ-color
-    environ-color-requires
+    (λ c κs. search needs)
     returns-4)

@@ -19,23 +19,8 @@ abbrev μ-loop : tie.MeasureT-loop
 loop-holds : tie.Need-loop-holds Inv-loop μ-loop
 loop-holds c = refl
 
-slot-at-requires : tie.Need-slot-at-requires Inv-loop μ-loop
-slot-at-requires c κs = search needs
-
-cast-if1 : tie.Need-cast-if1 Inv-loop μ-loop
-cast-if1 c = search needs
-
-entry-color-requires : tie.Need-entry-color-requires Inv-loop μ-loop
-entry-color-requires c κs = search needs
-
 returns : tie.Need-returns Inv-loop μ-loop
 returns c = c .entry-color .ensures ∙ sym (c .before .before .before .before .loop .inv ∙ scan-hit (λ (j : ℕ). eqb (slotAt (c .before .before .before .before .before .before .args .file .now) j) (c .before .before .before .before .before .before .args .value)) (entryColor (c .before .before .before .before .before .before .args .file .now)) (noColor 25) (c .before .before .before .before .loop .i) (c .before .before .before .before .before .before .args .cte) (c .before .before .before .loop-test .taken) (eq-eqb _ _ (sym (c .before .before .slot-at .ensures) ∙ c .before .if1 .taken)))
-
-add-i : tie.Need-add-i Inv-loop μ-loop
-add-i c = search needs
-
-loop-less : tie.Need-loop-less Inv-loop μ-loop
-loop-less c = search needs
 
 loop-again : tie.Need-loop-again Inv-loop μ-loop
 loop-again c = c .before .before .before .loop .inv ∙ scan-miss (λ (j : ℕ). eqb (slotAt (c .before .before .before .before .before .args .file .now) j) (c .before .before .before .before .before .args .value)) (entryColor (c .before .before .before .before .before .args .file .now)) (noColor 25) (c .before .before .before .loop .i) (c .before .before .before .before .before .args .cte) (c .before .before .loop-test .taken) (ne-eqb _ _ (λ q. c .if1 .left (c .before .slot-at .ensures ∙ q)))
@@ -50,11 +35,11 @@ environ-color-spec =
     Inv-loop
     μ-loop
     loop-holds
-    slot-at-requires
-    cast-if1
-    entry-color-requires
+    (λ c κs. search needs)
+    (λ c. search needs)
+    (λ c κs. search needs)
     returns
-    add-i
-    loop-less
+    (λ c. search needs)
+    (λ c. search needs)
     loop-again
     returns-2)

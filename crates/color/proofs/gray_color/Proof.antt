@@ -6,14 +6,8 @@ use Rattle.color.proofs.gray_color.Tie as tie
 returns : tie.Need-returns
 returns c = simp (lt-ltb _ _ (c .if1 .taken))
 
-cast-part : tie.Need-cast-part
-cast-part c = search needs
-
-mul-part : tie.Need-mul-part
-mul-part c = search needs
-
 returns-2 : tie.Need-returns-2
 returns-2 c = simp (le-ltb _ _ (c .if1 .left))
 
 pub gray-color-spec : {M : Type 1} → statement M
-gray-color-spec = tie.close (tie.spec returns cast-part mul-part returns-2)
+gray-color-spec = tie.close (tie.spec returns (λ c. search needs) (λ c. search needs) returns-2)

@@ -1,80 +1,100 @@
-use lib.ListN.{length}
+use Prim.Native.Nat.{ℕ, _+_, _-_, _≤_}
+use mathlib.Core.Path.{_∙_, ap, subst}
 use native.Mathlib.Omega.{arith}
-use Prim.Native.Nat.{_+_, _≤_}
+use lib.ListN.{length, take, drop}
+use Rattle.units.specs.Over.{zeros}
+use Rattle.layout.specs.Scanline.{stepOf, readingOf}
+use Rattle.layout.specs.Chain.{rasterOf}
+use Rattle.layout.specs.laws.Chain.{start-within, good-most}
+use Rattle.decode_scanline.specs.Answer.{IsLine}
+use Rattle.decode_raster.specs.laws.Steps.{next-within, one-most, step-lost, step-on}
 use borrow.Author.Needs.{needs}
-use Rattle.decode_raster.specs.laws.Steps.{step-lost, step-on, next-within, one-most}
-use Rattle.layout.specs.laws.Chain.{good-most}
-use Rattle.decode_raster.specs.laws.Chain.{start-within}
-use Rattle.header.specs.laws.Accepted.{accepted}
 use Rattle.decode_raster.proofs.read_line.Statement.{statement}
 use Rattle.decode_raster.proofs.read_line.Tie as tie
 
-fill-requires : tie.Need-fill-requires
-fill-requires c κs = search needs
+-- Where the chain has come to, a scanline starts within the bytes.
+at-within : (c : tie.Else1) → c .before .before .before .args .chain .at ≤ length (c .before .before .before .args .bytes .now)
+at-within c =
+    let s = c .before .before .before in
+    omega (arith, s .pre .1 .1 .0 .at, start-within (rasterOf (s .args .l) (s .args .bytes .now)) (s .pre .0) (s .args .k))
 
-same-length : tie.Need-same-length
-same-length c = search needs
+-- The scanline read there, for a row of the raster's length.
+line-read : (c : tie.After-read-scanline)
+    → let s = c .before .before .before .before .before .before in
+    let rest = take (length (s .args .bytes .now) - s .args .chain .at) (drop (s .args .chain .at) (s .args .bytes .now)) in
+    IsLine (stepOf (s .args .l .scn) (s .args .l .dtc) (s .args .l .ppl) rest)
+    (readingOf (s .args .l .scn) (s .args .l .dtc) (s .args .l .ppl) (s .args .k + 1) rest)
+    (c .read-scanline .result) (c .read-scanline .last .1 .1 .1 .1 .0)
+line-read c =
+    let s = c .before .before .before .before .before .before in
+    let rest = take (length (s .args .bytes .now) - s .args .chain .at) (drop (s .args .chain .at) (s .args .bytes .now)) in
+    subst
+    (λ (p : ℕ).
+    IsLine (stepOf (s .args .l .scn) (s .args .l .dtc) p rest) (readingOf (s .args .l .scn) (s .args .l .dtc) p (s .args .k + 1) rest)
+    (c .read-scanline .result) (c .read-scanline .last .1 .1 .1 .1 .0))
+    (s .pre .1 .1 .1 .1)
+    (c .read-scanline .ensures)
 
 returns : tie.Need-returns
 returns c =
-    let s = c .before .before .before .before .before .before .before in
-    step-lost (s .args .file .now) (s .args .k) (s .args .chain) (s .pre .1 .1 .0) (length (s .args .row .now)) (s .pre .1 .1 .1 .1) (c .before .before .before .before .if1 .taken) (c .before .before .fill .last .0) (c .before .before .fill .ensures)
-
-add-number : tie.Need-add-number
-add-number c = omega (arith, accepted (c .before .before .before .args .file .now) (c .before .before .before .pre .0) .nolHigh, c .before .before .before .pre .1 .1 .1 .0)
-
-cast-number : tie.Need-cast-number
-cast-number c = omega (arith, accepted (c .before .before .before .args .file .now) (c .before .before .before .pre .0) .nolHigh, c .before .before .before .pre .1 .1 .1 .0)
+    let f = c .before .before in
+    let s = f .before .before .before .before .before in
+    let a = s .args in
+    step-lost (rasterOf (a .l) (a .bytes .now)) (a .k) (a .chain) (s .pre .1 .1 .0) (f .before .before .if1 .taken) (f .fill .last .0)
+    (f .fill .ensures ∙ ap zeros (s .pre .1 .1 .1 .1))
 
 sub-read-scanline : tie.Need-sub-read-scanline
-sub-read-scanline c = omega (arith, c .before .before .before .pre .1 .1 .0 .at, start-within (c .before .before .before .args .file .now) (accepted (c .before .before .before .args .file .now) (c .before .before .before .pre .0) .inside) (c .before .before .before .args .k))
+sub-read-scanline c = omega (arith, at-within c)
 
 part-read-scanline-start : tie.Need-part-read-scanline-start
-part-read-scanline-start c = omega (arith, c .before .before .before .pre .1 .1 .0 .at, start-within (c .before .before .before .args .file .now) (accepted (c .before .before .before .args .file .now) (c .before .before .before .pre .0) .inside) (c .before .before .before .args .k))
-
-part-read-scanline-end : tie.Need-part-read-scanline-end
-part-read-scanline-end c = search needs
-
-read-scanline-requires : tie.Need-read-scanline-requires
-read-scanline-requires c κs = search needs
+part-read-scanline-start c = omega (arith, at-within c)
 
 add-t13 : tie.Need-add-t13
 add-t13 c =
-    let s = c .before .before .before .before .before .before .before .before .before in
-    let a : s .args .chain .at ≤ length (s .args .file .now) = omega (arith, s .pre .1 .1 .0 .at, start-within (s .args .file .now) (accepted (s .args .file .now) (s .pre .0) .inside) (s .args .k)) in
-    omega (arith, next-within (s .args .file .now) (s .args .chain .at) (s .args .h .scn) (s .args .h .dtc) (length (s .args .row .now)) (s .args .k + 1) (c .before .before .before .read-scanline .result) (c .before .before .before .read-scanline .last .1 .1 .1 .1 .0) a (c .before .before .before .read-scanline .ensures))
-
-one-if-good-requires : tie.Need-one-if-good-requires
-one-if-good-requires c κs = search needs
+    let y = c .before .before .before in
+    let e = y .before .before .before in
+    let s = e .before .before .before in
+    omega (
+      arith,
+      next-within (rasterOf (s .args .l) (s .args .bytes .now)) (s .args .chain .at) (s .args .k + 1) (y .read-scanline .result)
+          (y .read-scanline .last .1 .1 .1 .1 .0) (at-within e) (line-read y),
+    )
 
 add-t20 : tie.Need-add-t20
 add-t20 c =
-    let s = c .before .before .before .before .before .before .before .before .before .before .before in
-    omega (arith, s .pre .1 .1 .0 .good, good-most (s .args .file .now) (s .args .k), s .pre .1 .1 .1 .0, accepted (s .args .file .now) (s .pre .0) .nolHigh, c .before .one-if-good .ensures, one-most (c .before .before .before .before .before .read-scanline .result .status))
-
-same-length-2 : tie.Need-same-length-2
-same-length-2 c = search needs
+    let y = c .before .before .before .before .before in
+    let s = y .before .before .before .before .before .before in
+    omega (
+      arith,
+      s .pre .1 .1 .0 .good,
+      good-most (rasterOf (s .args .l) (s .args .bytes .now)) (s .args .k),
+      c .before .one-if-good .ensures,
+      one-most (y .read-scanline .result .status),
+    )
 
 returns-2 : tie.Need-returns-2
 returns-2 c =
-    let s = c .before .before .before .before .before .before .before .before .before .before .before in
-    step-on (s .args .file .now) (s .args .k) (s .args .chain) (s .pre .1 .1 .0) (length (s .args .row .now)) (s .pre .1 .1 .1 .1) (c .before .before .before .before .before .before .before .before .if1 .left) (s .args .h) (s .pre .1 .0) (c .before .before .before .before .before .read-scanline .result) (c .before .before .before .before .before .read-scanline .last .1 .1 .1 .1 .0) (c .before .one-if-good .result) (c .before .before .before .before .before .read-scanline .ensures) (c .before .one-if-good .ensures)
+    let y = c .before .before .before .before .before in
+    let e = y .before .before .before in
+    let s = e .before .before .before in
+    step-on (rasterOf (s .args .l) (s .args .bytes .now)) (s .args .k) (s .args .chain) (s .pre .1 .1 .0) (e .if1 .left)
+    (y .read-scanline .result) (y .read-scanline .last .1 .1 .1 .1 .0) (c .before .one-if-good .result) (line-read y) (c .before .one-if-good .ensures)
 
 pub read-line-spec : {M : Type 1} → statement M
 read-line-spec =
     tie.close
     (tie.spec
-    fill-requires
-    same-length
+    (λ c κs. search needs)
+    (λ c. search needs)
     returns
-    add-number
-    cast-number
+    (λ c. search needs)
+    (λ c. search needs)
     sub-read-scanline
     part-read-scanline-start
-    part-read-scanline-end
-    read-scanline-requires
+    (λ c. search needs)
+    (λ c κs. search needs)
     add-t13
-    one-if-good-requires
+    (λ c κs. search needs)
     add-t20
-    same-length-2
+    (λ c. search needs)
     returns-2)

@@ -1,133 +1,90 @@
-use lib.ListN.{length, set}
-use borrow.Rule.Slice.PartMut.{midOf, putMid}
 use borrow.Author.Needs.{needs}
+use Prim.Native.Nat.{_+_, _-_, _*_, _≤_}
+use mathlib.Core.Path.{_≡_}
 use native.Mathlib.Omega.{arith}
-use Prim.Native.Nat.{_+_, _-_, _*_, _≤_, _<_}
-use mathlib.Core.Path.{_≡_, ap, subst, subst⁻¹}
-use Rattle.decode_raster.specs.laws.Lines.{LinesAt, lines-first, lines-next, lines-done, lent-length, row-within}
-use Rattle.layout.specs.Chain.{nolOf, pplOf}
-use Rattle.header.specs.declared.fields.Fields.{Fields}
+use lib.ListN.{length}
+use Rattle.layout.specs.Chain.{rasterOf}
+use Rattle.decode_raster.specs.laws.Lines.{LinesAt, lines-first, row-fits, lent-length, lines-next, lines-done}
 use Rattle.decode_raster.proofs.read_lines.Statement.{statement}
 use Rattle.decode_raster.proofs.read_lines.Tie as tie
 
 abbrev Inv-loop : tie.InvT-loop
-Inv-loop file h pixels₀ marks₀ p n chain₀ k₀ pixels marks chain k = LinesAt file pixels₀ marks₀ pixels marks chain k
+Inv-loop bytes l pixels₀ marks₀ p n chain₀ k₀ pixels marks chain k = LinesAt (rasterOf l bytes) pixels₀ marks₀ pixels marks chain k
 
 abbrev μ-loop : tie.MeasureT-loop
-μ-loop file h pixels₀ marks₀ p n chain₀ k₀ pixels marks chain k = n - k
+μ-loop bytes l pixels₀ marks₀ p n chain₀ k₀ pixels marks chain k = n - k
 
-cast-p : tie.Need-cast-p Inv-loop μ-loop
-cast-p c = search needs
-
-cast-n : tie.Need-cast-n Inv-loop μ-loop
-cast-n c = search needs
-
-first-line-requires : tie.Need-first-line-requires Inv-loop μ-loop
-first-line-requires c κs = search needs
+-- row k has its place in the pixels
+room : (c : tie.In-loop Inv-loop μ-loop)
+    → let l = c .before .loop in
+    let p = c .before .before .before .before .before .before .before .args .l .ppl in l .k * p + p ≤ length (l .pixels)
+room c =
+    let l = c .before .loop in
+    let s = c .before .before .before .before .before .before .before in
+    row-fits (rasterOf (s .args .l) (s .args .bytes .now)) (s .args .pixels .now) (s .args .marks .now) (l .pixels) (l .marks) (l .chain) (l .k)
+    (l .inv) (c .loop-test .taken) (s .pre)
 
 loop-holds : tie.Need-loop-holds Inv-loop μ-loop
 loop-holds c =
-    let s = c .before .before .before .before .before .before in
-    lines-first (s .args .file .now) (s .args .pixels .now) (s .args .marks .now) (s .args .h) (c .first-line .result) (s .pre .1 .0) (c .first-line .ensures)
+    let a = c .before .before .before .before .before .args in
+    lines-first (rasterOf (a .l) (a .bytes .now)) (a .pixels .now) (a .marks .now)
 
 mul-from : tie.Need-mul-from Inv-loop μ-loop
-mul-from c =
-    let s = c .before .before .before .before .before .before .before .before in
-    let l = c .before in
-    let e = ap (λ (x : Fields). x .ppl) (s .pre .1 .0) in
-    let n = ap (λ (x : Fields). x .nol) (s .pre .1 .0) in
-    let g : l .loop .k * s .args .h .ppl + s .args .h .ppl ≤ length (s .args .pixels .now) =
-    row-within (l .loop .k) (s .args .h .nol) (s .args .h .ppl) (length (s .args .pixels .now)) (c .loop-test .taken) (subst⁻¹ (λ (x : Fields). x .nol * x .ppl ≤ length (s .args .pixels .now)) (s .pre .1 .0) (s .pre .1 .1 .0)) in omega (arith, g)
+mul-from c = omega (arith, room c)
 
 add-to : tie.Need-add-to Inv-loop μ-loop
-add-to c =
-    let s = c .before .before .before .before .before .before .before .before in
-    let l = c .before in
-    let e = ap (λ (x : Fields). x .ppl) (s .pre .1 .0) in
-    let n = ap (λ (x : Fields). x .nol) (s .pre .1 .0) in
-    let g : l .loop .k * s .args .h .ppl + s .args .h .ppl ≤ length (s .args .pixels .now) =
-    row-within (l .loop .k) (s .args .h .nol) (s .args .h .ppl) (length (s .args .pixels .now)) (c .loop-test .taken) (subst⁻¹ (λ (x : Fields). x .nol * x .ppl ≤ length (s .args .pixels .now)) (s .pre .1 .0) (s .pre .1 .1 .0)) in omega (arith, g)
+add-to c = omega (arith, room c)
 
 mul-read-line : tie.Need-mul-read-line Inv-loop μ-loop
-mul-read-line c =
-    let s = c .before .before .before .before .before .before .before .before in
-    let l = c .before in
-    let e = ap (λ (x : Fields). x .ppl) (s .pre .1 .0) in
-    let n = ap (λ (x : Fields). x .nol) (s .pre .1 .0) in
-    let g : l .loop .k * s .args .h .ppl + s .args .h .ppl ≤ length (s .args .pixels .now) =
-    row-within (l .loop .k) (s .args .h .nol) (s .args .h .ppl) (length (s .args .pixels .now)) (c .loop-test .taken) (subst⁻¹ (λ (x : Fields). x .nol * x .ppl ≤ length (s .args .pixels .now)) (s .pre .1 .0) (s .pre .1 .1 .0)) in omega (arith, g, s .good .1 .1 .0)
+mul-read-line c = omega (arith, room c, c .before .before .before .before .before .before .before .good)
 
 sub-read-line : tie.Need-sub-read-line Inv-loop μ-loop
-sub-read-line c =
-    let s = c .before .before .before .before .before .before .before .before in
-    let l = c .before in
-    let e = ap (λ (x : Fields). x .ppl) (s .pre .1 .0) in
-    let n = ap (λ (x : Fields). x .nol) (s .pre .1 .0) in
-    let g : l .loop .k * s .args .h .ppl + s .args .h .ppl ≤ length (s .args .pixels .now) =
-    row-within (l .loop .k) (s .args .h .nol) (s .args .h .ppl) (length (s .args .pixels .now)) (c .loop-test .taken) (subst⁻¹ (λ (x : Fields). x .nol * x .ppl ≤ length (s .args .pixels .now)) (s .pre .1 .0) (s .pre .1 .1 .0)) in omega (arith, g)
+sub-read-line c = omega (arith, room c)
 
 part-read-line-start : tie.Need-part-read-line-start Inv-loop μ-loop
-part-read-line-start c =
-    let s = c .before .before .before .before .before .before .before .before in
-    let l = c .before in
-    let e = ap (λ (x : Fields). x .ppl) (s .pre .1 .0) in
-    let n = ap (λ (x : Fields). x .nol) (s .pre .1 .0) in
-    let g : l .loop .k * s .args .h .ppl + s .args .h .ppl ≤ length (s .args .pixels .now) =
-    row-within (l .loop .k) (s .args .h .nol) (s .args .h .ppl) (length (s .args .pixels .now)) (c .loop-test .taken) (subst⁻¹ (λ (x : Fields). x .nol * x .ppl ≤ length (s .args .pixels .now)) (s .pre .1 .0) (s .pre .1 .1 .0)) in omega (arith, g)
+part-read-line-start c = omega (arith, room c)
 
 part-read-line-end : tie.Need-part-read-line-end Inv-loop μ-loop
-part-read-line-end c =
-    let s = c .before .before .before .before .before .before .before .before in
-    let l = c .before in
-    let e = ap (λ (x : Fields). x .ppl) (s .pre .1 .0) in
-    let n = ap (λ (x : Fields). x .nol) (s .pre .1 .0) in
-    let g : l .loop .k * s .args .h .ppl + s .args .h .ppl ≤ length (s .args .pixels .now) =
-    row-within (l .loop .k) (s .args .h .nol) (s .args .h .ppl) (length (s .args .pixels .now)) (c .loop-test .taken) (subst⁻¹ (λ (x : Fields). x .nol * x .ppl ≤ length (s .args .pixels .now)) (s .pre .1 .0) (s .pre .1 .1 .0)) in omega (arith, g, l .loop .inv .pixels-length)
+part-read-line-end c = omega (arith, room c)
 
 read-line-requires : tie.Need-read-line-requires Inv-loop μ-loop
 read-line-requires c κs =
-    let s = c .before .before .before .before .before .before .before .before .before in
-    let l = c .before .before in
-    let m : l .loop .k < nolOf (s .args .file .now) = subst (λ (x : Fields). l .loop .k < x .nol) (s .pre .1 .0) (c .before .loop-test .taken) in (
-      s .pre .0,
+    let l = c .before .before .loop in
+    let s = c .before .before .before .before .before .before .before .before in
+    let r = rasterOf (s .args .l) (s .args .bytes .now) in
+    let m = c .before .loop-test .taken in (
+      s .pre .starts,
       (
-        s .pre .1 .0,
+        s .pre .nol-most,
         (
-          l .loop .inv .chain,
-          (
-            m,
-            subst⁻¹ (λ (x : Fields). length (midOf (l .loop .k * x .ppl) (l .loop .k * x .ppl + x .ppl - l .loop .k * x .ppl) (l .loop .pixels)) ≡ pplOf (s .args .file .now)) (s .pre .1 .0)
-                (lent-length (s .args .file .now) (s .args .pixels .now) (s .args .marks .now) (l .loop .pixels) (l .loop .marks) (l .loop .chain) (l .loop .k) (l .loop .inv) m (s .pre .1 .1 .0) (s .pre .1 .1 .1)),
-          ),
+          l .inv .chain,
+          (m, lent-length r (s .args .pixels .now) (s .args .marks .now) (l .pixels) (l .marks) (l .chain) (l .k) (l .inv) m (s .pre)),
         ),
       ),
     )
 
 slice-write-marks : tie.Need-slice-write-marks Inv-loop μ-loop
 slice-write-marks c =
-    let s = c .before .before .before .before .before .before .before .before .before .before .before .before in
-    let l = c .before .before .before .before .before in
-    omega (arith, ap (λ (x : Fields). x .nol) (s .pre .1 .0), s .pre .1 .1 .1, l .loop .inv .marks-length, c .before .before .before .before .loop-test .taken)
+    let t = c .before .before .before .before in
+    let l = t .before .loop in
+    let s = t .before .before .before .before .before .before .before in
+    omega (arith, s .pre .marks-fit, l .inv .marks-length, t .loop-test .taken)
 
 add-k : tie.Need-add-k Inv-loop μ-loop
-add-k c =
-    let s = c .before .before .before .before .before .before .before .before .before .before .before .before in
-    let l = c .before .before .before .before .before in
-    omega (arith, ap (λ (x : Fields). x .nol) (s .pre .1 .0), s .pre .1 .1 .1, c .before .before .before .before .loop-test .taken, s .good)
+add-k c = omega (arith, c .before .before .before .before .loop-test .taken, c .before .before .before .before .before .before .before .before .before .before .before .pre .nol-most)
 
 loop-less : tie.Need-loop-less Inv-loop μ-loop
 loop-less c = omega (arith, c .before .before .before .before .loop-test .taken)
 
 loop-again : tie.Need-loop-again Inv-loop μ-loop
 loop-again c =
-    let s = c .before .before .before .before .before .before .before .before .before .before .before .before in
-    let l = c .before .before .before .before .before in
-    let r = c .before .before .read-line in
-    let m : l .loop .k < nolOf (s .args .file .now) = subst (λ (x : Fields). l .loop .k < x .nol) (s .pre .1 .0) (c .before .before .before .before .loop-test .taken) in
-    subst⁻¹
-    (λ (x : Fields). LinesAt (s .args .file .now) (s .args .pixels .now) (s .args .marks .now) (putMid (l .loop .k * x .ppl) (l .loop .k * x .ppl + x .ppl - l .loop .k * x .ppl) (l .loop .pixels) (r .last .1 .1 .1 .1 .0)) (set (l .loop .marks) (l .loop .k) (r .result .status)) (r .result) (l .loop .k + 1))
-    (s .pre .1 .0)
-    (lines-next (s .args .file .now) (s .args .pixels .now) (s .args .marks .now) (l .loop .pixels) (l .loop .marks) (l .loop .chain) (l .loop .k) (l .loop .inv) m (s .pre .1 .1 .0) (s .pre .1 .1 .1) (r .result) (r .last .1 .1 .1 .1 .0) (r .ensures))
+    let y = c .before .before in
+    let t = y .before .before in
+    let l = t .before .loop in
+    let s = t .before .before .before .before .before .before .before in
+    let r = rasterOf (s .args .l) (s .args .bytes .now) in
+    lines-next r (s .args .pixels .now) (s .args .marks .now) (l .pixels) (l .marks) (l .chain) (l .k) (l .inv) (t .loop-test .taken) (s .pre)
+    (y .read-line .result) (y .read-line .last .1 .1 .1 .1 .0) (y .read-line .ensures)
 
 same-length : tie.Need-same-length Inv-loop μ-loop
 same-length c = c .before .loop .inv .pixels-length
@@ -137,10 +94,10 @@ same-length-2 c = c .before .loop .inv .marks-length
 
 returns : tie.Need-returns Inv-loop μ-loop
 returns c =
-    let s = c .before .before .before .before .before .before .before .before in
-    let l = c .before in
-    let e : l .loop .k ≡ nolOf (s .args .file .now) = omega (arith, ap (λ (x : Fields). x .nol) (s .pre .1 .0), l .loop .inv .low, c .loop-test .left) in
-    lines-done (s .args .file .now) (s .args .pixels .now) (s .args .marks .now) (l .loop .pixels) (l .loop .marks) (l .loop .chain) (l .loop .k) (l .loop .inv) e
+    let l = c .before .loop in
+    let a = c .before .before .before .before .before .before .before .args in
+    let e : l .k ≡ a .l .nol = omega (arith, l .inv .low, c .loop-test .left) in
+    lines-done (rasterOf (a .l) (a .bytes .now)) (a .pixels .now) (a .marks .now) (l .pixels) (l .marks) (l .chain) (l .k) (l .inv) e
 
 pub read-lines-spec : {M : Type 1} → statement M
 read-lines-spec =
@@ -148,9 +105,8 @@ read-lines-spec =
     (tie.spec
     Inv-loop
     μ-loop
-    cast-p
-    cast-n
-    first-line-requires
+    (λ c. search needs)
+    (λ c. search needs)
     loop-holds
     mul-from
     add-to

@@ -1,47 +1,37 @@
 -- One scanline read: what the chain is after it, where it was lost before and where not.
-use Prim.Native.Nat.{ℕ, _+_, _-_, _*_, _^_, _≤_, _<_}
+use Prim.Native.Nat.{ℕ, _+_, _-_, _≤_}
 use mathlib.Core.Path.{_≡_, refl, sym, _∙_, ap, subst, subst⁻¹}
-use mathlib.Core.Bool.{Bool, true, false, not, cond}
+use mathlib.Core.Bool.{Bool, true, false, not, cond, _&&_}
 use mathlib.Core.List.{List}
-use native.Mathlib.Nat.{le-of-lt, lt-of-le-of-lt, mul-le-mul-left, mul-lt-mul-of-pos-right}
+use native.Mathlib.Nat.{add-zero}
 use native.Mathlib.Numerals.{add-one}
 use native.Mathlib.Omega.{arith}
-use lib.ListN.{length, take, drop, replicate, length-drop}
-use lib.Pow.{pow-pos, pow-add}
-use lib.Seq.{take-all}
+use lib.ListN.{length, take, length-drop}
 use lib.Dec.{eqb}
 use borrow.Author.Tests.{not-true, not-false}
-use Rattle.header.specs.declared.fields.Fields.{Fields}
-use Rattle.header.specs.Fields.{fieldsOf}
-use Rattle.layout.specs.Scanline.{lineOf, Reading}
-use Rattle.layout.specs.Chain.{pplOf, scnOf, typeOf, lineAt, start, reached, readingAt, good}
+use Rattle.units.specs.Over.{zeros}
+use Rattle.units.specs.laws.Parts.{rest-is}
+use Rattle.layout.specs.Scanline.{Reading, stepOf, readingOf}
+use Rattle.layout.specs.Chain.{Raster, from, stepAt, start, reached, numberOf, readingAt, oneIfGood, goodCount}
+use Rattle.layout.specs.laws.Line.{used-within}
+use Rattle.layout.specs.laws.Chain.{start-suc, reached-suc, reading-reached, reading-unreached, unreached-start, unreached-suc, good-suc}
 use Rattle.decode_scanline.specs.declared.Scanline.{Scanline}
 use Rattle.decode_scanline.specs.Answer.{IsLine}
 use Rattle.decode_raster.specs.declared.Chain.{Chain}
-use Rattle.layout.specs.laws.Line.{used-within}
-use Rattle.decode_raster.specs.laws.Answer.{ChainAt, Stepped, oneIfGood}
-use Rattle.decode_raster.specs.laws.Chain.{start-next, good-next, NextLost, next-lost, NextOn, next-on}
+use Rattle.decode_raster.specs.laws.Answer.{ChainAt, Stepped}
 
--- a product of two numbers of 32 bits
-pub product-fits : {a b : ℕ} → a < 2 ^ 32 → b < 2 ^ 32 → a * b < 2 ^ 64
-product-fits {a} {b} ha hb =
-    subst⁻¹ (λ (n : ℕ). a * b < n) (pow-add 2 32 32)
-    (lt-of-le-of-lt (mul-le-mul-left a (le-of-lt hb)) (mul-lt-mul-of-pos-right ha (pow-pos 32)))
-
--- all that is left of a file from a byte on
-pub rest-is : (f : List ℕ) (at : ℕ) → take (length f - at) (drop at f) ≡ drop at f
-rest-is f at = take-all (length f - at) (drop at f) (omega (arith, length-drop at f))
-
--- the next scanline starts within the file
-pub next-within : (f : List ℕ) (at scn t p number : ℕ) (l : Scanline) (row : List ℕ) → at ≤ length f
-    → IsLine (lineOf scn t p number (take (length f - at) (drop at f))) l row → at + l .used ≤ length f
-next-within f at scn t p number l row h line =
+-- the next scanline starts within the bytes
+pub next-within : (r : Raster) (at number : ℕ) (l : Scanline) (row : List ℕ) → at ≤ length (r .bytes)
+    → IsLine (stepOf (r .scn) (r .dataType) (r .ppl) (take (length (r .bytes) - at) (from r at)))
+    (readingOf (r .scn) (r .dataType) (r .ppl) number (take (length (r .bytes) - at) (from r at))) l row
+    → at + l .used .0 ≤ length (r .bytes)
+next-within r at number l row h line =
     omega (
       arith,
       line .used,
-      used-within scn t p number (take (length f - at) (drop at f)),
-      ap length (rest-is f at),
-      length-drop at f,
+      used-within (r .scn) (r .dataType) (r .ppl) (take (length (r .bytes) - at) (from r at)),
+      ap length (rest-is (r .bytes) at),
+      length-drop at (r .bytes),
     )
 
 pub one-most : (status : ℕ) → oneIfGood status ≤ 1
@@ -51,48 +41,53 @@ one-most status = go (eqb status 0)
     go true = omega arith
     go false = omega arith
 
-module _ (f : List ℕ) (k : ℕ) (c : Chain) (h : ChainAt f k c) (n : ℕ) (p : n ≡ pplOf f) where
-  pub step-lost : c .lost ≡ true → (row : List ℕ) → row ≡ replicate n 0
-      → Stepped f k (record { at = c .at; lost = true; good = c .good; status = 9 }) row
+module _ (r : Raster) (k : ℕ) (c : Chain) (h : ChainAt r k c) where
+  pub step-lost : c .lost ≡ true → (row : List ℕ) → row ≡ zeros (r .ppl)
+      → Stepped r k (record { at = c .at; lost = true; good = c .good; status = 9 }) row
   step-lost l row e =
-      let o : NextLost f k = next-lost f k (not-true (reached f k) (sym (h .lost) ∙ l)) in
+      let u : reached r k ≡ false = not-true (reached r k) (sym (h .lost) ∙ l) in
+      let x = reading-unreached r k u in
       record {
         chain =
-            subst⁻¹ (λ (i : ℕ). ChainAt f i (record { at = c .at; lost = true; good = c .good; status = 9 })) (add-one k)
+            subst⁻¹ (λ (i : ℕ). ChainAt r i (record { at = c .at; lost = true; good = c .good; status = 9 })) (add-one k)
             (record {
-              at = h .at ∙ sym (o .start-is);
-              lost = sym (ap not (o .reached-is));
-              good = h .good ∙ sym (o .good-is);
+              at = h .at ∙ sym (unreached-start r k u);
+              lost = sym (ap not (unreached-suc r k u));
+              good = h .good ∙ sym (good-suc r k ∙ ap (λ (y : Reading). goodCount r k + oneIfGood (y .status)) x ∙ add-zero (goodCount r k));
             });
-        status = sym (ap (λ (r : Reading). r .status) (o .reading-is));
-        row-is = e ∙ ap (λ (i : ℕ). replicate i 0) p ∙ sym (ap (λ (r : Reading). r .row) (o .reading-is));
+        status = sym (ap (λ (y : Reading). y .status) x);
+        row-is = e ∙ sym (ap (λ (y : Reading). y .row) x);
       }
 
-  pub step-on : c .lost ≡ false → (x : Fields) → x ≡ fieldsOf f → (l : Scanline) (row : List ℕ) (one : ℕ)
-      → IsLine (lineOf (x .scn) (x .dtc) n (k + 1) (take (length f - c .at) (drop (c .at) f))) l row
+  pub step-on : c .lost ≡ false → (l : Scanline) (row : List ℕ) (one : ℕ)
+      → IsLine (stepOf (r .scn) (r .dataType) (r .ppl) (take (length (r .bytes) - c .at) (from r (c .at))))
+      (readingOf (r .scn) (r .dataType) (r .ppl) (k + 1) (take (length (r .bytes) - c .at) (from r (c .at)))) l row
       → one ≡ oneIfGood (l .status)
-      → Stepped f k (record { at = c .at + l .used; lost = l .lost; good = c .good + one; status = l .status }) row
-  step-on kept x read l row one line counted =
-      let o : NextOn f k = next-on f k (not-false (reached f k) (sym (h .lost) ∙ kept)) in
-      let there : IsLine (lineAt f (start f k) k) l row =
-      subst (λ (s : ℕ). IsLine (lineAt f s k) l row) (h .at)
-      (subst (λ (r : List ℕ). IsLine (lineOf (scnOf f) (typeOf f) (pplOf f) (k + 1) r) l row) (rest-is f (c .at))
-      (subst (λ (m : ℕ). IsLine (lineOf (scnOf f) (typeOf f) m (k + 1) (take (length f - c .at) (drop (c .at) f))) l row) p
-      (subst (λ (y : Fields). IsLine (lineOf (y .scn) (y .dtc) n (k + 1) (take (length f - c .at) (drop (c .at) f))) l row) read line))) in
-      let s : l .status ≡ readingAt f k .status = there .status ∙ sym (ap (λ (r : Reading). r .status) (o .reading-is)) in
+      → Stepped r k (record { at = c .at + l .used .0; lost = l .lost; good = c .good + one; status = l .status }) row
+  step-on kept l row one line counted =
+      let u : reached r k ≡ true = not-false (reached r k) (sym (h .lost) ∙ kept) in
+      let x = reading-reached r k u in
+      let there : IsLine (stepAt r (start r k)) (readingOf (r .scn) (r .dataType) (r .ppl) (numberOf r k) (from r (start r k))) l row =
+      subst (λ (s : ℕ). IsLine (stepAt r s) (readingOf (r .scn) (r .dataType) (r .ppl) (numberOf r k) (from r s)) l row) (h .at)
+      (subst (λ (b : List ℕ). IsLine (stepOf (r .scn) (r .dataType) (r .ppl) b) (readingOf (r .scn) (r .dataType) (r .ppl) (k + 1) b) l row)
+      (rest-is (r .bytes) (c .at)) line) in
+      let s : l .status ≡ readingAt r k .status = there .status ∙ sym (ap (λ (y : Reading). y .status) x) in
       record {
         chain =
-            subst⁻¹ (λ (i : ℕ). ChainAt f i (record { at = c .at + l .used; lost = l .lost; good = c .good + one; status = l .status })) (add-one k)
+            subst⁻¹ (λ (i : ℕ). ChainAt r i (record { at = c .at + l .used .0; lost = l .lost; good = c .good + one; status = l .status })) (add-one k)
             (record {
-              at = ap (λ (a : ℕ). a + l .used) (h .at) ∙ ap (λ (u : ℕ). start f k + u) (there .used) ∙ sym (start-next f k);
-              lost = there .lost ∙ twice (lineAt f (start f k) k .lost) ∙ sym (ap not (o .reached-is));
+              at = ap (λ (a : ℕ). a + l .used .0) (h .at) ∙ ap (λ (n : ℕ). start r k + n) (there .used) ∙ sym (start-suc r k);
+              lost =
+                  there .lost
+                  ∙ twice (stepAt r (start r k) .lost)
+                  ∙ sym (ap not (reached-suc r k ∙ ap (λ (b : Bool). b && not (stepAt r (start r k) .lost)) u));
               good =
                   ap (λ (g : ℕ). g + one) (h .good)
-                  ∙ ap (λ (m : ℕ). good f k + m) (counted ∙ ap oneIfGood s)
-                  ∙ sym (good-next f k);
+                  ∙ ap (λ (m : ℕ). goodCount r k + m) (counted ∙ ap oneIfGood s)
+                  ∙ sym (good-suc r k);
             });
         status = s;
-        row-is = there .row-is ∙ sym (ap (λ (r : Reading). r .row) (o .reading-is));
+        row-is = there .row-is ∙ sym (ap (λ (y : Reading). y .row) x);
       }
     where
       twice : (b : Bool) → b ≡ not (not b)

@@ -1,35 +1,56 @@
 -- The whole reading: what a rejected call answers, what room one has that is not, and what it answers.
-use Prim.Native.Nat.{ℕ, _*_, _≤_}
-use mathlib.Core.Path.{_≡_, sym, _∙_, ap}
+use Prim.Native.Nat.{ℕ, _*_, _≤_, _<_}
+use mathlib.Core.Path.{_≡_, sym, _∙_, ap, subst}
 use mathlib.Core.Bool.{true, false}
-use mathlib.Core.List.{List, _++_}
-use lib.ListN.{length, drop}
+use mathlib.Core.List.{List}
+use lib.ListN.{length}
 use lib.Dec.{eqb}
-use borrow.Author.Tests.{eq-eqb, ne-eqb, ltb-false}
-use Rattle.units.specs.laws.Rules.{none-holds, both-none}
-use Rattle.header.specs.declared.fields.Fields.{Fields}
-use Rattle.header.specs.Fields.{fieldsOf}
-use Rattle.header.specs.Rejections.{rejection, rejections}
-use Rattle.layout.specs.Chain.{pplOf, nolOf, rows, statuses, good}
-use Rattle.layout.specs.Reading.{bufferRules, rasterRejection, rejectedRaster, rasterReading, pixelsAfter, marksAfter}
+use borrow.Author.Tests.{eq-eqb, ne-eqb, lt-ltb, le-ltb, ltb-false}
+use Rattle.units.specs.Rules.{first}
+use Rattle.units.specs.laws.Rules.{none-holds, both-none, by-first, first-later}
+use Rattle.header.specs.Rejections.{rejectionTo22, rulesTo22}
+use Rattle.header.specs.laws.Accepted.{accepted}
+use Rattle.layout.specs.declared.RasterLayout.{RasterLayout}
+use Rattle.layout.specs.Chain.{Raster, sheetOf, rasterOf, goodCount}
+use Rattle.layout.specs.Reading.{bufferRules, rasterRejection, answerOf, rejectedRaster, rasterReading, pixelsAfter, marksAfter}
 use Rattle.decode_raster.specs.declared.Chain.{Chain}
-use Rattle.decode_raster.specs.laws.Answer.{ChainAt, answerOf}
+use Rattle.decode_raster.specs.laws.Answer.{Fits}
+use Rattle.decode_raster.specs.laws.Lines.{Done}
 
--- a call that is not rejected: the file is not, and the buffers are long enough
-pub record Room (f : List ℕ) (pixels marks : ℕ) : Type 0 where
-  pub file : rejection f ≡ 0
-  pub pixels-fit : nolOf f * pplOf f ≤ pixels
-  pub marks-fit : nolOf f ≤ marks
+-- the file's number, or that of the first buffer that is too short
+module _ (f : List ℕ) (pixels marks : ℕ) {n : ℕ} (number : n ≡ rejectionTo22 f) where
+  pub by-file : (n ≡ 0 → ⊥) → n ≡ rasterRejection f pixels marks
+  unfolding rejectionTo22 rasterRejection
+  by-file some = by-first (rulesTo22 f) (bufferRules (sheetOf f .ppl) (sheetOf f .nol) pixels marks) number some
 
-pub has-room : (f : List ℕ) (pixels marks : ℕ) → rasterRejection f pixels marks ≡ 0 → Room f pixels marks
-unfolding rejection rasterRejection
-has-room f pixels marks e =
-    let b = both-none (rejections f) (bufferRules (pplOf f) (nolOf f) pixels marks) tt e in
-    let n = none-holds (bufferRules (pplOf f) (nolOf f) pixels marks) tt (b .1) in
+  module _ (none : n ≡ 0) {l : RasterLayout} (read : rasterOf l f ≡ sheetOf f) where
+    past-file : rasterRejection f pixels marks ≡ first (bufferRules (l .ppl) (l .nol) pixels marks)
+    unfolding rejectionTo22 rasterRejection
+    past-file =
+        first-later (rulesTo22 f) (bufferRules (sheetOf f .ppl) (sheetOf f .nol) pixels marks) tt (sym number ∙ none)
+        ∙ ap (λ (r : Raster). first (bufferRules (r .ppl) (r .nol) pixels marks)) (sym read)
+
+    pub by-pixels : pixels < l .nol * l .ppl → 23 ≡ rasterRejection f pixels marks
+    by-pixels h = rw past-file (simp (lt-ltb _ _ h))
+
+    pub by-marks : l .nol * l .ppl ≤ pixels → marks < l .nol → 24 ≡ rasterRejection f pixels marks
+    by-marks e h = rw past-file (simp (le-ltb _ _ e, lt-ltb _ _ h))
+
+    pub by-none : l .nol * l .ppl ≤ pixels → l .nol ≤ marks → 0 ≡ rasterRejection f pixels marks
+    by-none e h = rw past-file (simp (le-ltb _ _ e, le-ltb _ _ h))
+
+-- a call that is not rejected has room
+sheet-fits : (f : List ℕ) (pixels marks : ℕ) → rasterRejection f pixels marks ≡ 0 → Fits (sheetOf f) pixels marks
+unfolding rejectionTo22 rasterRejection
+sheet-fits f pixels marks e =
+    let b = both-none (rulesTo22 f) (bufferRules (sheetOf f .ppl) (sheetOf f .nol) pixels marks) tt e in
+    let n = none-holds (bufferRules (sheetOf f .ppl) (sheetOf f .nol) pixels marks) tt (b .1) in
+    let a = accepted f (b .0) in
     record {
-      file = b .0;
-      pixels-fit = ltb-false pixels (nolOf f * pplOf f) (n .0);
-      marks-fit = ltb-false marks (nolOf f) (n .1 .0);
+      starts = a .inside;
+      nol-most = a .limits .nol-most;
+      pixels-fit = ltb-false pixels (sheetOf f .nol * sheetOf f .ppl) (n .0);
+      marks-fit = ltb-false marks (sheetOf f .nol) (n .1 .0);
     }
 
 module _ (f pixels marks : List ℕ) {n : ℕ} (number : n ≡ rasterRejection f (length pixels) (length marks)) where
@@ -40,16 +61,20 @@ module _ (f pixels marks : List ℕ) {n : ℕ} (number : n ≡ rasterRejection f
       let t : eqb (rasterRejection f (length pixels) (length marks)) 0 ≡ false = ne-eqb _ 0 (λ z. some (number ∙ z)) in
       (rw t (ap rejectedRaster number), (rw t, rw t))
 
-  pub read-whole : n ≡ 0 → (h : Fields) → h ≡ fieldsOf f → (c : Chain) → ChainAt f (nolOf f) c
-      → (pixels′ marks′ : List ℕ)
-      → pixels′ ≡ rows f (nolOf f) ++ drop (nolOf f * pplOf f) pixels
-      → marks′ ≡ statuses f (nolOf f) ++ drop (nolOf f) marks
-      → (a : ℕ) → a ≡ answerOf (c .good) (h .nol)
-      → (record { answer = a; good = c .good; end = c .at } ≡ rasterReading f pixels marks)
-      × ((pixels′ ≡ pixelsAfter f pixels marks) × (marks′ ≡ marksAfter f pixels marks))
-  unfolding rasterReading pixelsAfter marksAfter
-  read-whole none h read c chain pixels′ marks′ px mk a answer =
-      let t : eqb (rasterRejection f (length pixels) (length marks)) 0 ≡ true = eq-eqb _ 0 (sym number ∙ none) in
-      let x : a ≡ answerOf (good f (nolOf f)) (nolOf f) =
-      answer ∙ ap (λ (y : Fields). answerOf (c .good) (y .nol)) read ∙ ap (λ (g : ℕ). answerOf g (nolOf f)) (chain .good) in
-      (rw t (λ i. record { answer = x i; good = chain .good i; end = chain .at i }), (rw t px, rw t mk))
+  module _ (none : n ≡ 0) (l : RasterLayout) (read : rasterOf l f ≡ sheetOf f) where
+    pub has-room : Fits (rasterOf l f) (length pixels) (length marks)
+    has-room =
+        subst (λ (r : Raster). Fits r (length pixels) (length marks)) (sym read)
+        (sheet-fits f (length pixels) (length marks) (sym number ∙ none))
+
+    pub read-whole : (c : Chain) (pixels′ marks′ : List ℕ) → Done (rasterOf l f) pixels marks pixels′ marks′ c
+        → (a : ℕ) → a ≡ answerOf (c .good) (l .nol)
+        → (record { answer = a; good = c .good; end = c .at } ≡ rasterReading f pixels marks)
+        × ((pixels′ ≡ pixelsAfter f pixels marks) × (marks′ ≡ marksAfter f pixels marks))
+    unfolding rasterReading pixelsAfter marksAfter
+    read-whole c pixels′ marks′ done a answer =
+        let t : eqb (rasterRejection f (length pixels) (length marks)) 0 ≡ true = eq-eqb _ 0 (sym number ∙ none) in
+        let d = subst (λ (r : Raster). Done r pixels marks pixels′ marks′ c) read done in
+        let x : a ≡ answerOf (goodCount (sheetOf f) (sheetOf f .nol)) (sheetOf f .nol) =
+        answer ∙ ap (λ (r : Raster). answerOf (c .good) (r .nol)) read ∙ ap (λ (g : ℕ). answerOf g (sheetOf f .nol)) (d .chain .good) in
+        (rw t (λ i. record { answer = x i; good = d .chain .good i; end = d .chain .at i }), (rw t (d .pixels-is), rw t (d .marks-is)))

@@ -2,16 +2,17 @@
 use mathlib.Core.Path.{refl}
 use Rattle.units.specs.LittleEndian.{u16At, u32At}
 use Rattle.units.specs.Scan.{scan}
-use Rattle.units.specs.Words.{words}
-use Rattle.header.specs.Rejections.{rejection, isDataType, slotOccurs, sharesSlot}
-use Rattle.decode_body.specs.Pixels.{runPixels, runTotal, pairPixels, pairTotal}
-use Rattle.decode_body.specs.Extents.{runsFrom, pairsFrom}
-use Rattle.layout.specs.Scanline.{bodyRules, bodyPixels, bodyExtent, headOf, bodyOf, reading, isLost, openLost}
-use Rattle.layout.specs.Chain.{start, reached, readingAt, statuses, rows, good}
+use Rattle.units.specs.Words.{words, wordsToBytes}
+use Rattle.codec.specs.RunPixels.{runPixels, runTotal, runsFrom}
+use Rattle.codec.specs.PairPixels.{pairPixels, pairTotal, pairsFrom}
+use Rattle.codec.specs.Table.{codecOf, isDataType}
+use Rattle.header.specs.Rejections.{rejectionTo22, slotOccurs, sharesSlot}
+use Rattle.layout.specs.Scanline.{headOf, bodyOf, reading, isLost}
+use Rattle.layout.specs.Chain.{start, reached, readingAt, statuses, rows, goodCount}
 use Rattle.layout.specs.Reading.{rasterRejection, rasterReading, pixelsAfter, marksAfter}
-use Rattle.edges.specs.Files.{environ}
+use Rattle.edges.specs.Files.{entriesFrom, environ}
 use Rattle.edges.specs.Cases.{AllHold, lentPixels, lentMarks, computed, rejects, reads, one, oneGood, blank, cases}
 
 pub all-hold : AllHold
-unfolding cases computed rejects reads one oneGood blank lentPixels lentMarks environ u16At u32At scan words rejection isDataType slotOccurs sharesSlot runPixels runTotal pairPixels pairTotal runsFrom pairsFrom bodyRules bodyPixels bodyExtent headOf bodyOf reading isLost openLost start reached readingAt statuses rows good rasterRejection rasterReading pixelsAfter marksAfter
+unfolding cases computed rejects reads one oneGood blank lentPixels lentMarks environ entriesFrom u16At u32At scan words wordsToBytes rejectionTo22 isDataType codecOf slotOccurs sharesSlot runPixels runTotal pairPixels pairTotal runsFrom pairsFrom headOf bodyOf reading isLost start reached readingAt statuses rows goodCount rasterRejection rasterReading pixelsAfter marksAfter
 all-hold = refl

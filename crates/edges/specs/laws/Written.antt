@@ -5,7 +5,7 @@ use mathlib.Core.List.{List, [], _∷_}
 use native.Mathlib.Omega.{arith}
 use lib.ListN.{replicate}
 use borrow.Author.Tests.{eq-eqb}
-use Rattle.encode_body.specs.Runs.{levelRuns, levelPieces, cutLevels}
+use Rattle.codec.specs.RunPixels.{levelRuns, levelPieces, cutLevels}
 use Rattle.edges.specs.Written.{Off32768, On32768}
 
 counted : (v k n : ℕ) → levelRuns v k (replicate n v) ≡ levelRuns v (k + n) []

@@ -1,11 +1,9 @@
--- Laws of the limits: a pixel above the highest, and products of two fields.
-use Prim.Native.Nat.{ℕ, _+_, _*_, _^_, _≤_, _<_}
+-- A pixel above the highest.
+use Prim.Native.Nat.{ℕ, _+_, _≤_, _<_}
 use mathlib.Core.Path.{_≡_, refl}
 use mathlib.Core.Bool.{Bool, true, false, _||_}
 use mathlib.Core.List.{List}
-use native.Mathlib.Nat.{mul-le-mul}
 use native.Mathlib.Numerals.{add-one}
-use native.Mathlib.Omega.{arith}
 use lib.ListN.{length, getD, drop, drop-of-length-le}
 use lib.Seq.{drop-cons}
 use lib.Dec.{ltb}
@@ -23,7 +21,3 @@ module _ (m : ℕ) (l : List ℕ) (i : ℕ) where
   unfolding anyAbove
   above-end true h = refl
   above-end false h = rw (drop-of-length-le l {i = i} h)
-
--- a product of two fields of 16 bits
-pub product-fits : {a b : ℕ} → a ≤ 65535 → b ≤ 65535 → a * b < 2 ^ 64
-product-fits {a} {b} h g = let p : a * b ≤ 65535 * 65535 = mul-le-mul h g in omega arith

@@ -1,33 +1,25 @@
 -- One scanline put at the start of an output.
-use Prim.Native.Nat.{ℕ, _+_, _-_, _/_, _≤_}
+use Prim.Native.Nat.{ℕ, _+_, _-_, _≤_}
 use mathlib.Core.Path.{_≡_, sym, _∙_, ap}
 use mathlib.Core.List.{List, [], _∷_, _++_, append-assoc}
 use native.Mathlib.Omega.{arith}
 use lib.ListN.{length, take, drop, length-append, length-drop}
-use lib.Seq.{sets, length-take-le, drop-at, drop-drop}
+use lib.Seq.{length-take-le, drop-at, drop-drop}
 use borrow.Author.Tests.{eq-eqb, ne-eqb}
 use borrow.Rule.Slice.PartMut.{midOf, putMid}
-use Rattle.encode_body.specs.Bodies.{wordsToBytes}
-use Rattle.encode_body.specs.Over.{over}
-use Rattle.encode_body.specs.laws.Over.{sets-over, over-fits}
-use Rattle.encode_raster.specs.File.{bodyBytes, lineHeader, lineBytes}
+use Rattle.units.specs.Counts.{nBytes, wordsOfBytes}
+use Rattle.units.specs.Words.{wordsToBytes, wordCount}
+use Rattle.units.specs.Over.{over}
+use Rattle.units.specs.laws.Over.{over-fits}
+use Rattle.units.specs.laws.Stores.{length-bytes}
+use Rattle.codec.specs.Table.{bodyBytes}
+use Rattle.encode_raster.specs.File.{lineHeader, lineBytes}
 use Rattle.encode_raster.specs.laws.Answer.{LineFits}
 use Rattle.encode_raster.specs.laws.Bounds.{length-line}
-use Rattle.encode_raster.specs.laws.Parts.{tail-is, put-tail}
+use Rattle.units.specs.laws.Parts.{tail-is, put-tail}
 
 abbrev headerWords : ℕ → ℕ → List ℕ
 headerWords follow number = 0x5900 ∷ (follow ∷ (number ∷ (0 ∷ [])))
-
--- eight stores
-pub header-put : (follow number : ℕ) (out : List ℕ) → 8 ≤ length out
-    → sets out 0 (wordsToBytes (headerWords follow number)) ≡ wordsToBytes (headerWords follow number) ++ drop 8 out
-unfolding wordsToBytes
-header-put follow number out h =
-    sets-over (wordsToBytes (headerWords follow number)) out ∙ over-fits (wordsToBytes (headerWords follow number)) out h
-
--- there is still room for them when the body is put
-pub header-room : (out part : List ℕ) → 8 ≤ length out → 8 ≤ length (putMid 8 (length out - 8) out part)
-header-room out part h = rw (put-tail 8 out part) (omega (arith, length-append (take 8 out) part, length-take-le 8 out h))
 
 module _ (t scn number : ℕ) (row : List ℕ) where
   open-is : (scn ≡ 1 → ⊥) → lineBytes t scn number row ≡ bodyBytes t scn row
@@ -43,10 +35,10 @@ module _ (t scn number : ℕ) (row : List ℕ) where
 
 module _ (t scn number : ℕ) (row out : List ℕ) (fits : LineFits t scn number row out) where
   -- without a header
-  pub line-open : (scn ≡ 1 → ⊥) → (size : ℕ) (now : List ℕ)
+  pub line-open : (scn ≡ 1 → ⊥) → {size : ℕ} {now : List ℕ}
       → (size ≡ length (bodyBytes t scn row)) × (now ≡ over (bodyBytes t scn row) out)
       → (size ≡ length (lineBytes t scn number row)) × (now ≡ lineBytes t scn number row ++ drop (length (lineBytes t scn number row)) out)
-  line-open n size now e =
+  line-open n e =
       let o = open-is t scn number row n in
       let r : length (bodyBytes t scn row) ≤ length out = rw o at (fits .room) in
       rw o (e .0, e .1 ∙ over-fits (bodyBytes t scn row) out r)
@@ -56,23 +48,28 @@ module _ (t scn number : ℕ) (row out : List ℕ) (fits : LineFits t scn number
     pub headed-room : 8 + length (bodyBytes t scn row) ≤ length out
     headed-room = omega (arith, fits .room, headed-length t scn number row one)
 
-    pub line-headed : (size : ℕ) (part now : List ℕ)
+    pub line-headed : {size follow : ℕ} {part now : List ℕ}
         → (size ≡ length (bodyBytes t scn row)) × (part ≡ over (bodyBytes t scn row) (midOf 8 (length out - 8) out))
-        → now ≡ wordsToBytes (headerWords (size / 2 + 2) number) ++ drop 8 (putMid 8 (length out - 8) out part)
+        → follow ≡ wordsOfBytes (nBytes size) .0
+        → now ≡ over (wordsToBytes (headerWords (follow + 2) number)) (putMid 8 (length out - 8) out part)
         → (8 + size ≡ length (lineBytes t scn number row))
         × (now ≡ lineBytes t scn number row ++ drop (length (lineBytes t scn number row)) out)
-    line-headed size part now e p =
+    line-headed {size} {follow} {part} e f p =
         let body = bodyBytes t scn row in
         let room = headed-room in
         let fit : length body ≤ length (drop 8 out) = omega (arith, length-drop 8 out) in
         let len : 8 + size ≡ length (lineBytes t scn number row) = ap (λ (n : ℕ). 8 + n) (e .0) ∙ sym (headed-length t scn number row one) in
         let put : part ≡ body ++ drop (8 + length body) out =
         e .1 ∙ ap (λ (x : List ℕ). over body x) (tail-is 8 out) ∙ over-fits body (drop 8 out) fit ∙ ap (λ (x : List ℕ). body ++ x) (drop-drop (length body) 8 out) in
-        let behind : drop 8 (putMid 8 (length out - 8) out part) ≡ part =
+        let placed = putMid 8 (length out - 8) out part in
+        let wide : 8 ≤ length placed = rw (put-tail 8 out part) (omega (arith, length-append (take 8 out) part, length-take-le 8 out (omega arith))) in
+        let behind : drop 8 placed ≡ part =
         ap (λ (x : List ℕ). drop 8 x) (put-tail 8 out part) ∙ drop-at (take 8 out) part 8 (length-take-le 8 out (omega arith)) in (
           len,
           p
-              ∙ ap (λ (n : ℕ). wordsToBytes (headerWords (n / 2 + 2) number) ++ drop 8 (putMid 8 (length out - 8) out part)) (e .0)
+              ∙ ap (λ (n : ℕ). over (wordsToBytes (headerWords (n + 2) number)) placed) (f ∙ ap (λ (n : ℕ). wordsOfBytes (nBytes n) .0) (e .0))
+              ∙ over-fits (lineHeader number body) placed (omega (arith, wide, length-bytes (headerWords (wordCount body .0 + 2) number)))
+              ∙ ap (λ (n : ℕ). lineHeader number body ++ drop n placed) (length-bytes _)
               ∙ ap (λ (x : List ℕ). lineHeader number body ++ x) (behind ∙ put)
               ∙ sym (append-assoc (lineHeader number body) body (drop (8 + length body) out))
               ∙ ap (λ (x : List ℕ). x ++ drop (8 + length body) out) (sym (headed-is t scn number row one))

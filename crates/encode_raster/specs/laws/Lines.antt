@@ -12,12 +12,13 @@ use lib.Dec.{ltb}
 use borrow.Author.Tests.{eq-eqb, ltb-false}
 use borrow.Rule.Slice.PartMut.{midOf, putMid, same-len-mid}
 use Rattle.units.specs.Words.{wordCount}
-use Rattle.encode_raster.specs.Picture.{Picture, rowAt}
-use Rattle.encode_raster.specs.File.{bodyBytes, lineBytes, linesOf}
-use Rattle.encode_raster.specs.Writing.{anyLong}
+use Rattle.codec.specs.Table.{bodyBytes}
+use Rattle.encode_header.specs.Picture.{Picture, rowAt}
+use Rattle.encode_raster.specs.File.{lineBytes, linesOf}
+use Rattle.encode_raster.specs.Writing.{mostWords, anyLong}
 use Rattle.encode_raster.specs.laws.Answer.{LineFits, LinesFit}
 use Rattle.encode_raster.specs.laws.Bounds.{length-next}
-use Rattle.encode_raster.specs.laws.Parts.{tail-is, put-next, row-is}
+use Rattle.units.specs.laws.Parts.{tail-is, put-next, row-is}
 
 -- fewer scanlines are no longer
 grows : (i : Picture) (n k : ℕ) → k ≤ n → length (linesOf i k) ≤ length (linesOf i n)
@@ -32,14 +33,14 @@ or-none : (a b : Bool) → (a || b) ≡ false → (a ≡ false) × (b ≡ false)
 or-none false b e = (refl, e)
 or-none true b e = absurd (true≢false e)
 
-counted-each : (i : Picture) (n k : ℕ) → anyLong i n ≡ false → k < n → wordCount (bodyBytes (i .dtc) (i .scn) (rowAt i k)) ≤ 65533
+counted-each : (i : Picture) (n k : ℕ) → anyLong i n ≡ false → k < n → wordCount (bodyBytes (i .dtc) (i .scn) (rowAt i k)) .0 ≤ mostWords .0
 unfolding anyLong
 counted-each i zero k e h = absurd (omega arith)
 counted-each i (suc n) k e h =
-    let o = or-none (anyLong i n) (ltb 65533 (wordCount (bodyBytes (i .dtc) (i .scn) (rowAt i n)))) e in
+    let o = or-none (anyLong i n) (ltb (mostWords .0) (wordCount (bodyBytes (i .dtc) (i .scn) (rowAt i n)) .0)) e in
     let g : k ≤ n = omega arith in
     ⊎-elim
-    (λ s. rw s (ltb-false 65533 (wordCount (bodyBytes (i .dtc) (i .scn) (rowAt i n))) (o .1)))
+    (λ s. rw s (ltb-false (mostWords .0) (wordCount (bodyBytes (i .dtc) (i .scn) (rowAt i n)) .0) (o .1)))
     (λ l. counted-each i n k (o .0) l)
     (eq-or-lt-of-le g)
 
@@ -58,6 +59,19 @@ lines-first i out = record { low = zero-le; at-is = refl; out-is = refl; same = 
 abbrev lentRow : Picture → ℕ → List ℕ
 lentRow i k = take (k * i .ppl + i .ppl - k * i .ppl) (drop (k * i .ppl) (i .pixels))
 
+-- what is known when scanline k is to be written
+pub record Turn (i : Picture) (out₀ out : List ℕ) (at k : ℕ) : Type 0 where
+  pub at-within : at ≤ length out
+  -- it fits the part that is lent for it
+  pub line-fits : LineFits (i .dtc) (i .scn) (k + 1) (lentRow i k) (midOf at (length out - at) out)
+  pub size-within : {size : ℕ} → size ≡ length (lineBytes (i .dtc) (i .scn) (k + 1) (lentRow i k)) → at + size ≤ length out
+  -- one scanline more
+  pub lines-next : {size : ℕ} {part : List ℕ}
+      → (size ≡ length (lineBytes (i .dtc) (i .scn) (k + 1) (lentRow i k)))
+      × (part ≡ lineBytes (i .dtc) (i .scn) (k + 1) (lentRow i k)
+      ++ drop (length (lineBytes (i .dtc) (i .scn) (k + 1) (lentRow i k))) (midOf at (length out - at) out))
+      → LinesAt i out₀ (putMid at (length out - at) out part) (at + size) (k + 1)
+
 module _ (i : Picture) (out₀ out : List ℕ) (at k : ℕ) (now : LinesAt i out₀ out at k) (more : k < i .nol) (fit : LinesFit i (i .nol) out₀) where
   line-room : at + length (lineBytes (i .dtc) (i .scn) (k + 1) (rowAt i k)) ≤ length out
   unfolding linesOf
@@ -71,14 +85,10 @@ module _ (i : Picture) (out₀ out : List ℕ) (at k : ℕ) (now : LinesAt i out
         fit .room,
       )
 
-  pub at-within : at ≤ length out
-  at-within = omega (arith, line-room)
-
   tail-length : length (midOf at (length out - at) out) ≡ length out - at
   tail-length = ap length (tail-is at out) ∙ length-drop at out
 
-  -- scanline k fits the part that is lent for it
-  pub line-fits : LineFits (i .dtc) (i .scn) (k + 1) (lentRow i k) (midOf at (length out - at) out)
+  line-fits : LineFits (i .dtc) (i .scn) (k + 1) (lentRow i k) (midOf at (length out - at) out)
   line-fits =
       subst⁻¹ (λ (r : List ℕ). LineFits (i .dtc) (i .scn) (k + 1) r (midOf at (length out - at) out)) (row-is k (i .ppl) (i .pixels))
       (record {
@@ -86,14 +96,13 @@ module _ (i : Picture) (out₀ out : List ℕ) (at k : ℕ) (now : LinesAt i out
         counted = λ one. counted-each i (i .nol) k (rw (eq-eqb (i .scn) 1 one) at (fit .counted)) more;
       })
 
-  -- one scanline more
-  pub lines-next : (size : ℕ) (part : List ℕ)
+  lines-next : {size : ℕ} {part : List ℕ}
       → (size ≡ length (lineBytes (i .dtc) (i .scn) (k + 1) (lentRow i k)))
       × (part ≡ lineBytes (i .dtc) (i .scn) (k + 1) (lentRow i k)
       ++ drop (length (lineBytes (i .dtc) (i .scn) (k + 1) (lentRow i k))) (midOf at (length out - at) out))
       → LinesAt i out₀ (putMid at (length out - at) out part) (at + size) (k + 1)
   unfolding linesOf
-  lines-next size part e =
+  lines-next {size} {part} e =
       let line = lineBytes (i .dtc) (i .scn) (k + 1) (rowAt i k) in
       let r = row-is k (i .ppl) (i .pixels) in
       let s : size ≡ length line = e .0 ∙ ap (λ (x : List ℕ). length (lineBytes (i .dtc) (i .scn) (k + 1) x)) r in
@@ -119,13 +128,16 @@ module _ (i : Picture) (out₀ out : List ℕ) (at k : ℕ) (now : LinesAt i out
         same = same-len-mid at (length out - at) out part full ∙ now .same;
       })
 
-  pub size-within : (size : ℕ) → size ≡ length (lineBytes (i .dtc) (i .scn) (k + 1) (lentRow i k)) → at + size ≤ length out
-  size-within size e =
+  size-within : {size : ℕ} → size ≡ length (lineBytes (i .dtc) (i .scn) (k + 1) (lentRow i k)) → at + size ≤ length out
+  size-within e =
       omega (
         arith,
         line-room,
         e ∙ ap (λ (x : List ℕ). length (lineBytes (i .dtc) (i .scn) (k + 1) x)) (row-is k (i .ppl) (i .pixels)),
       )
+
+  pub turn : Turn i out₀ out at k
+  turn = record { at-within = omega (arith, line-room); line-fits = line-fits; size-within = size-within; lines-next = lines-next }
 
 -- all are written
 pub lines-done : (i : Picture) (n : ℕ) (out₀ out : List ℕ) (at k : ℕ) → LinesAt i out₀ out at k → k ≡ n

@@ -18,27 +18,6 @@ abbrev μ-loop : tie.MeasureT-loop
 loop-holds : tie.Need-loop-holds Inv-loop μ-loop
 loop-holds c = refl
 
-put-color-requires : tie.Need-put-color-requires Inv-loop μ-loop
-put-color-requires c κs = search needs
-
-add-v : tie.Need-add-v Inv-loop μ-loop
-add-v c = omega arith
-
-loop-less : tie.Need-loop-less Inv-loop μ-loop
-loop-less c = omega arith
-
-loop-again : tie.Need-loop-again Inv-loop μ-loop
-loop-again c = omega arith
-
-put-color-requires-2 : tie.Need-put-color-requires-2 Inv-loop μ-loop
-put-color-requires-2 c κs = search needs
-
-same-length : tie.Need-same-length Inv-loop μ-loop
-same-length c = omega arith
-
-returns : tie.Need-returns Inv-loop μ-loop
-returns c = search needs
-
 pub put-colors-spec : {M : Type 1} → statement M
 put-colors-spec =
     tie.close
@@ -46,10 +25,10 @@ put-colors-spec =
     Inv-loop
     μ-loop
     loop-holds
-    put-color-requires
-    add-v
-    loop-less
-    loop-again
-    put-color-requires-2
-    same-length
-    returns)
+    (λ c κs. search needs)
+    (λ c. omega arith)
+    (λ c. omega arith)
+    (λ c. omega arith)
+    (λ c κs. search needs)
+    (λ c. omega arith)
+    (λ c. search needs))

@@ -9,7 +9,9 @@ use lib.Dec.{eqb}
 use borrow.Author.Tests.{eqb-true}
 use Rattle.header.specs.declared.fields.Fields.{Fields}
 use Rattle.header.specs.Fields.{fieldsOf}
-use Rattle.header.specs.Rejections.{slotAt, entryStart, slotOccurs, sharesSlot, frameRules, limitRules, colorTableRules, rejections}
+use Rattle.header.specs.Rejections.{slotAt, entryStart, slotOccurs, sharesSlot, frameRules, colorTableRules, rulesTo22}
+use Rattle.limits.specs.Limits.{limitRules}
+use Rattle.units.specs.Counts.{bytesIn}
 use Rattle.isolation.specs.laws.Same.{same-u16, same-u32, same-scan}
 
 same-and : (t a b : Bool) → (t ≡ true → a ≡ b) → (t && a) ≡ (t && b)
@@ -24,7 +26,7 @@ module _ (g f : List ℕ) (n : ℕ) (same : (i : ℕ) → i < n → getD g i 0 �
       λ i.
       record {
         htc = w 0 (omega arith) i;
-        wtf = w 2 (omega arith) i;
+        wtf = record { 0 = w 2 (omega arith) i };
         dtc = w 4 (omega arith) i;
         ppl = d 184 (omega arith) i;
         nol = d 188 (omega arith) i;
@@ -51,10 +53,10 @@ module _ (g f : List ℕ) (n : ℕ) (same : (i : ℕ) → i < n → getD g i 0 �
       same-scan (λ i. slotOccurs g (slotAt g i) (i + 1) m) (λ i. slotOccurs f (slotAt f i) (i + 1) m) (λ i. true) false 0 (m - 0)
       (λ j l u. rw (same-slot j m h (omega arith), same-occurs (slotAt f j) (j + 1) m h))
 
-  pub same-rejections : 1024 ≤ n → (fieldsOf f .ctv ≡ 2 → entryStart (fieldsOf f .cte) ≤ n) → length g ≡ length f
-      → rejections g ≡ rejections f
-  same-rejections h entries e =
-      ap (λ (x : Fields). frameRules (length g) x ++ (limitRules x ++ colorTableRules g x)) (same-fields h) ∙
+  pub same-rules : 1024 ≤ n → (fieldsOf f .ctv ≡ 2 → entryStart (fieldsOf f .cte) ≤ n) → length g ≡ length f
+      → rulesTo22 g ≡ rulesTo22 f
+  same-rules h entries e =
+      ap (λ (x : Fields). frameRules (bytesIn g) x ++ (limitRules (x .dtc) (x .slo) (x .scn) (x .ppl) (x .nol) ++ colorTableRules g x)) (same-fields h) ∙
       rw (
         e,
         same-and (eqb (fieldsOf f .ctv) 2) (sharesSlot g (fieldsOf f .cte)) (sharesSlot f (fieldsOf f .cte))

@@ -4,19 +4,18 @@ use mathlib.Core.Path.{_≡_, refl, sym, _∙_, ap}
 use mathlib.Core.List.{List}
 use lib.ListN.{length}
 use borrow.Author.Tests.{lt-ltb, le-ltb, ne-eqb, eqb-false}
-use Rattle.header.specs.declared.fields.Fields.{Fields}
-use Rattle.header.specs.Rejections.{rejection, rejections}
+use Rattle.units.specs.laws.Rules.{both-none}
+use Rattle.header.specs.Rejections.{rejectionTo22, rulesTo22}
 use Rattle.layout.specs.Scanline.{Reading}
-use Rattle.layout.specs.Chain.{scnOf, pplOf, nolOf, start}
+use Rattle.layout.specs.Chain.{Raster, sheetOf, start, reached, bodyAt, endOf}
 use Rattle.layout.specs.Reading.{rasterRejection, bufferRules, rejectedRaster, rasterReading, pixelsAfter, marksAfter}
-use Rattle.isolation.specs.Statement.{bodyAt, ChangedInBodies, LineIs, SameLine, TwoReadings, Isolated}
-use Rattle.isolation.specs.laws.Same.{first-none}
-use Rattle.isolation.specs.laws.OneFile.{line-is, one-reading}
-use Rattle.isolation.specs.laws.TwoFiles.{fields, also-one, rejection-is, same-starts, same-reaches, same-readings, also-none}
+use Rattle.isolation.specs.Statement.{ChangedInBodies, LineIs, SameLine, TwoReadings, Demand3}
+use Rattle.isolation.specs.laws.OneFile.{withBytes, line-is, one-reading}
+use Rattle.isolation.specs.laws.TwoFiles.{same-sheet, rejection-is, same-starts, same-reaches, same-readings, also-none}
 
-accepted-file : (f : List ℕ) (room lines : ℕ) → rasterRejection f room lines ≡ 0 → rejection f ≡ 0
-unfolding rasterRejection rejection
-accepted-file f room lines h = first-none (rejections f) (bufferRules (pplOf f) (nolOf f) room lines) h
+accepted-file : (f : List ℕ) (room lines : ℕ) → rasterRejection f room lines ≡ 0 → rejectionTo22 f ≡ 0
+unfolding rasterRejection rejectionTo22
+accepted-file f room lines h = both-none (rulesTo22 f) (bufferRules (sheetOf f .ppl) (sheetOf f .nol) room lines) tt h .0
 
 rejected-with : (f pixels marks : List ℕ) (n : ℕ) → rasterRejection f (length pixels) (length marks) ≡ n → (n ≡ 0 → ⊥)
     → rasterReading f pixels marks ≡ rejectedRaster n
@@ -31,40 +30,34 @@ same-line-of e l₁ l₂ =
       row = l₂ .row ∙ ap (λ (r : Reading). r .row) e ∙ sym (l₁ .row);
     }
 
-two-readings : (f g pixels₁ marks₁ pixels₂ marks₂ : List ℕ) → scnOf f ≡ 1 → rejection f ≡ 0
+two-readings : (f g pixels₁ marks₁ pixels₂ marks₂ : List ℕ) → sheetOf f .scn ≡ 1 → rejectionTo22 f ≡ 0
     → rasterRejection f (length pixels₁) (length marks₁) ≡ 0 → ChangedInBodies f g
     → rasterRejection g (length pixels₂) (length marks₂) ≡ 0
-    → TwoReadings f g (rasterReading f pixels₁ marks₁) (pixelsAfter f pixels₁ marks₁) (marksAfter f pixels₁ marks₁)
+    → TwoReadings (sheetOf f) (sheetOf g) (rasterReading f pixels₁ marks₁) (pixelsAfter f pixels₁ marks₁) (marksAfter f pixels₁ marks₁)
     (rasterReading g pixels₂ marks₂) (pixelsAfter g pixels₂ marks₂) (marksAfter g pixels₂ marks₂)
 two-readings f g pixels₁ marks₁ pixels₂ marks₂ one ok taken₁ changed taken₂ =
-    let same = fields f g one ok changed in
-    let also = also-one f g one ok changed in
-    let starts = same-starts f g one ok changed in
-    let reaches = same-reaches f g one ok changed in
-    let r₁ = one-reading f f refl one (λ k. refl) pixels₁ marks₁ taken₁ in
-    let r₂ = one-reading f g same also reaches pixels₂ marks₂ taken₂ in
-    let line : (k : ℕ) → k < nolOf f → bodyAt g k ≡ bodyAt f k → SameLine (pplOf f) k (pixelsAfter f pixels₁ marks₁) (marksAfter f pixels₁ marks₁) (pixelsAfter g pixels₂ marks₂) (marksAfter g pixels₂ marks₂) =
+    let r = sheetOf f in
+    let sheet = same-sheet f g one ok changed in
+    let starts = same-starts r g one (changed .same-length) (changed .elsewhere) in
+    let reaches = same-reaches r g one (changed .same-length) (changed .elsewhere) in
+    let first = one-reading r f refl one (λ k. refl) pixels₁ marks₁ taken₁ in
+    let second = one-reading r g sheet one reaches pixels₂ marks₂ taken₂ in
+    let line : (k : ℕ) → k < r .nol → bodyAt (withBytes r g) k ≡ bodyAt r k → SameLine (r .ppl) k (pixelsAfter f pixels₁ marks₁) (marksAfter f pixels₁ marks₁) (pixelsAfter g pixels₂ marks₂) (marksAfter g pixels₂ marks₂) =
     λ k l b.
-    same-line-of (same-readings f g one ok changed k b)
-    (line-is f f refl one (λ j. refl) pixels₁ marks₁ taken₁ k l)
-    (line-is f g same also reaches pixels₂ marks₂ taken₂ k l) in
+    same-line-of (same-readings r g one (changed .same-length) (changed .elsewhere) k b)
+    (line-is r f refl one (λ j. refl) pixels₁ marks₁ taken₁ k l)
+    (line-is r g sheet one reaches pixels₂ marks₂ taken₂ k l) in
     record {
-      first = r₁;
-      second = r₂;
-      same-reached = λ k l. reaches k;
-      same-start = λ k l. starts k;
-      same-end = r₂ .end ∙ starts (nolOf g) ∙ ap (λ (x : Fields). start f (x .nol)) same ∙ sym (r₁ .end);
-      same-line = λ k l b. line k l b;
-      no-body = λ k l b. line k l (also-none f g one ok changed k b ∙ sym b);
+      first = first;
+      second = second;
+      same-reached = λ k l. ap (λ (x : Raster). reached x k) sheet ∙ reaches k;
+      same-start = λ k l. ap (λ (x : Raster). start x k) sheet ∙ starts k;
+      same-end = second .end ∙ ap endOf sheet ∙ starts (r .nol) ∙ sym (first .end);
+      same-line = λ k l b. line k l (sym (ap (λ (x : Raster). bodyAt x k) sheet) ∙ b);
+      no-body = λ k l b. line k l (also-none r g one (changed .same-length) (changed .elsewhere) k b ∙ sym b);
     }
 
-pub isolated : (f g pixels₁ marks₁ pixels₂ marks₂ : List ℕ)
-    → scnOf f ≡ 1
-    → rasterRejection f (length pixels₁) (length marks₁) ≡ 0
-    → ChangedInBodies f g
-    → Isolated f g (length pixels₂) (length marks₂)
-    (rasterReading f pixels₁ marks₁) (pixelsAfter f pixels₁ marks₁) (marksAfter f pixels₁ marks₁)
-    (rasterReading g pixels₂ marks₂) (pixelsAfter g pixels₂ marks₂) (marksAfter g pixels₂ marks₂)
+pub isolated : Demand3
 isolated f g pixels₁ marks₁ pixels₂ marks₂ one taken₁ changed =
     let ok = accepted-file f (length pixels₁) (length marks₁) taken₁ in
     let n = rejection-is f g one ok changed (length pixels₂) (length marks₂) in

@@ -1,73 +1,90 @@
--- One reading that is not rejected: h is the file that it reads, and its fields and which scanlines are reached are f's.
+-- One reading that is not rejected: h is the file that it reads. Its raster is r with the bytes of h, and the scanlines that
+-- are reached are those of r.
 use Prim.Native.Nat.{ℕ, _*_, _<_}
-use mathlib.Core.Path.{_≡_, refl, sym, _∙_, ap, subst}
+use mathlib.Core.Path.{_≡_, refl, sym, _∙_, subst⁻¹}
 use mathlib.Core.Bool.{Bool, true, false}
 use mathlib.Core.Logic.{_↔_}
-use mathlib.Core.List.{List}
-use lib.ListN.{length, drop, replicate}
-use Rattle.header.specs.declared.fields.Fields.{Fields}
-use Rattle.header.specs.Fields.{fieldsOf}
+use mathlib.Core.List.{List, _++_}
+use lib.ListN.{length, drop}
+use Rattle.units.specs.Over.{zeros}
 use Rattle.layout.specs.Scanline.{reading, unreached}
-use Rattle.layout.specs.Chain.{scnOf, typeOf, pplOf, nolOf, numberOf, reached, readingAt, endOf}
-use Rattle.layout.specs.Reading.{rasterRejection, rasterReading, pixelsAfter, marksAfter}
-use Rattle.isolation.specs.Statement.{LineIs, OneReading, headAt, bodyAt}
-use Rattle.isolation.specs.laws.Chained.{reading-reached, reading-unreached}
+use Rattle.layout.specs.Chain.{Raster, sheetOf, reached, headAt, bodyAt, numberOf, readingAt, rows, statuses}
+use Rattle.layout.specs.Reading.{rasterRejection, rasterReading, readNumbers, pixelsAfter, marksAfter}
+use Rattle.layout.specs.laws.Chain.{reading-unreached}
+use Rattle.isolation.specs.Statement.{LineIs, OneReading}
+use Rattle.isolation.specs.laws.Chained.{reading-own}
 use Rattle.isolation.specs.laws.Buffers.{AllGood, line-there, answer-good, blank-row}
 
+-- a raster with other bytes
+abbrev pub withBytes : Raster → List ℕ → Raster
+withBytes r h =
+    record { bytes = h; dataStart = r .dataStart; scn = r .scn; dataType = r .dataType; ppl = r .ppl; nol = r .nol }
+
 -- the reading of scanline k of h
-module _ (f h : List ℕ) (same : fieldsOf h ≡ fieldsOf f) (one : scnOf h ≡ 1)
-    (same-reached : (k : ℕ) → reached h k ≡ reached f k) where
-  pub reading-is : (k : ℕ) → reached f k ≡ true
-      → readingAt h k ≡ reading (typeOf f) (pplOf f) (numberOf f k) (headAt h k) (bodyAt h k)
-  reading-is k r =
-      reading-reached h one k (same-reached k ∙ r) ∙
-      ap (λ (x : Fields). reading (x .dtc) (x .ppl) (numberOf f k) (headAt h k) (bodyAt h k)) same
+module _ (r : Raster) (h : List ℕ) (one : r .scn ≡ 1) (same-reached : (k : ℕ) → reached (withBytes r h) k ≡ reached r k) where
+  pub reading-is : (k : ℕ) → reached r k ≡ true
+      → readingAt (withBytes r h) k ≡ reading (r .dataType) (r .ppl) (numberOf r k) (headAt (withBytes r h) k) (bodyAt (withBytes r h) k)
+  reading-is k q = reading-own (withBytes r h) one k (same-reached k ∙ q)
 
-  pub no-reading : (k : ℕ) → reached f k ≡ false → readingAt h k ≡ unreached (pplOf f)
-  no-reading k r = reading-unreached h one k (same-reached k ∙ r) ∙ ap (λ (x : Fields). unreached (x .ppl)) same
+  pub no-reading : (k : ℕ) → reached r k ≡ false → readingAt (withBytes r h) k ≡ unreached (r .ppl)
+  no-reading k q = reading-unreached (withBytes r h) k (same-reached k ∙ q)
 
-  blank-reading : (k : ℕ) → (readingAt h k .status ≡ 0 → ⊥) → readingAt h k .row ≡ replicate (pplOf f) 0
-  blank-reading k z = go (reached f k) refl
+  blank-reading : (k : ℕ) → (readingAt (withBytes r h) k .status ≡ 0 → ⊥) → readingAt (withBytes r h) k .row ≡ zeros (r .ppl)
+  blank-reading k z = go (reached r k) refl
     where
-      go : (t : Bool) → reached f k ≡ t → readingAt h k .row ≡ replicate (pplOf f) 0
-      go true r =
-          rw (reading-is k r)
-          (blank-row (typeOf f) (pplOf f) (numberOf f k) (headAt h k) (bodyAt h k) (rw (reading-is k r) at z))
-      go false r = rw (no-reading k r)
+      go : (t : Bool) → reached r k ≡ t → readingAt (withBytes r h) k .row ≡ zeros (r .ppl)
+      go true q =
+          rw (reading-is k q)
+          (blank-row (r .dataType) (r .ppl) (numberOf r k) (headAt (withBytes r h) k) (bodyAt (withBytes r h) k) (rw (reading-is k q) at z))
+      go false q = rw (no-reading k q)
 
--- the answer and the buffers
-module _ (f h : List ℕ) (same : fieldsOf h ≡ fieldsOf f) (one : scnOf h ≡ 1)
-    (same-reached : (k : ℕ) → reached h k ≡ reached f k) (pixels marks : List ℕ)
+-- the answer and the buffers of a file that is not rejected, by its raster
+module _ (h pixels marks : List ℕ) (taken : rasterRejection h (length pixels) (length marks) ≡ 0) where
+  pixels-are : pixelsAfter h pixels marks ≡ rows (sheetOf h) (sheetOf h .nol) ++ drop (sheetOf h .nol * sheetOf h .ppl) pixels
+  unfolding pixelsAfter
+  pixels-are = rw taken
+
+  marks-are : marksAfter h pixels marks ≡ statuses (sheetOf h) (sheetOf h .nol) ++ drop (sheetOf h .nol) marks
+  unfolding marksAfter
+  marks-are = rw taken
+
+  answer-is : rasterReading h pixels marks ≡ readNumbers (sheetOf h)
+  unfolding rasterReading
+  answer-is = rw taken
+
+module _ (r : Raster) (h : List ℕ) (sheet : sheetOf h ≡ withBytes r h) (one : r .scn ≡ 1)
+    (same-reached : (k : ℕ) → reached (withBytes r h) k ≡ reached r k) (pixels marks : List ℕ)
     (taken : rasterRejection h (length pixels) (length marks) ≡ 0) where
-  pub line-is : (k : ℕ) → k < nolOf f
-      → LineIs (pplOf f) k (pixelsAfter h pixels marks) (marksAfter h pixels marks) (readingAt h k)
-  unfolding pixelsAfter marksAfter
-  line-is =
-      subst
-      (λ (x : Fields).
-      (k : ℕ) → k < x .nol → LineIs (x .ppl) k (pixelsAfter h pixels marks) (marksAfter h pixels marks) (readingAt h k))
-      same
-      (λ k l. rw taken (line-there h (nolOf h) k (drop (nolOf h * pplOf h) pixels) (drop (nolOf h) marks) l))
+  pub line-is : (k : ℕ) → k < r .nol
+      → LineIs (r .ppl) k (pixelsAfter h pixels marks) (marksAfter h pixels marks) (readingAt (withBytes r h) k)
+  line-is k l =
+      rw (pixels-are h pixels marks taken, marks-are h pixels marks taken)
+      (subst⁻¹
+      (λ (x : Raster).
+      LineIs (r .ppl) k (rows x (x .nol) ++ drop (x .nol * x .ppl) pixels) (statuses x (x .nol) ++ drop (x .nol) marks) (readingAt (withBytes r h) k))
+      sheet
+      (line-there (withBytes r h) (r .nol) k (drop (r .nol * r .ppl) pixels) (drop (r .nol) marks) l))
 
-  answer-is : (rasterReading h pixels marks .answer ≡ 0) ↔ AllGood h (nolOf f)
-  unfolding rasterReading
-  answer-is =
-      subst (λ (x : Fields). (rasterReading h pixels marks .answer ≡ 0) ↔ AllGood h (x .nol)) same
-      (rw taken (answer-good h (nolOf h)))
+  all-good : (rasterReading h pixels marks .answer ≡ 0) ↔ AllGood (withBytes r h) (r .nol)
+  all-good =
+      rw (answer-is h pixels marks taken)
+      (subst⁻¹ (λ (x : Raster). (readNumbers x .answer ≡ 0) ↔ AllGood (withBytes r h) (r .nol)) sheet (answer-good (withBytes r h) (r .nol)))
 
-  end-is : rasterReading h pixels marks .end ≡ endOf h
-  unfolding rasterReading
-  end-is = rw taken
-
-  pub one-reading : OneReading f h (rasterReading h pixels marks) (pixelsAfter h pixels marks) (marksAfter h pixels marks)
+  pub one-reading : OneReading r (sheetOf h) (rasterReading h pixels marks) (pixelsAfter h pixels marks) (marksAfter h pixels marks)
   one-reading =
       record {
-        own = λ k l r. rw (reading-is f h same one same-reached k r) at (line-is k l);
-        rest = λ k l r. rw (no-reading f h same one same-reached k r) at (line-is k l);
-        blank = λ k l z. line-is k l .row ∙ blank-reading f h same one same-reached k (λ e. z (line-is k l .status ∙ e));
-        end = end-is;
+        own =
+            λ k l q.
+            subst⁻¹
+            (λ (x : Raster).
+            LineIs (r .ppl) k (pixelsAfter h pixels marks) (marksAfter h pixels marks) (reading (r .dataType) (r .ppl) (numberOf r k) (headAt x k) (bodyAt x k)))
+            sheet
+            (rw (reading-is r h one same-reached k q) at (line-is k l));
+        rest = λ k l q. rw (no-reading r h one same-reached k q) at (line-is k l);
+        blank = λ k l z. line-is k l .row ∙ blank-reading r h one same-reached k (λ e. z (line-is k l .status ∙ e));
+        end = rw (answer-is h pixels marks taken);
         answer = (
-          (λ e k l. line-is k l .status ∙ answer-is .0 e k l),
-          (λ e. answer-is .1 (λ k l. sym (line-is k l .status) ∙ e k l)),
+          (λ e k l. line-is k l .status ∙ all-good .0 e k l),
+          (λ e. all-good .1 (λ k l. sym (line-is k l .status) ∙ e k l)),
         );
       }

@@ -1,16 +1,12 @@
--- Lists of bytes that agree in places, and tables one after the other.
+-- Lists of bytes that agree in places.
 use Prim.Native.Nat.{ℕ, zero, suc, _+_, _≤_, _<_}
-use mathlib.Core.Path.{_≡_, refl, sym, _∙_}
-use mathlib.Core.Bool.{Bool, true, false}
-use mathlib.Core.List.{List, _++_}
+use mathlib.Core.Path.{_≡_, refl}
+use mathlib.Core.Bool.{Bool}
+use mathlib.Core.List.{List}
 use native.Mathlib.Omega.{arith}
 use lib.ListN.{length, getD, take, drop, length-take, length-drop}
 use lib.Seq.{ext-getD, getD-take, getD-drop}
-use lib.Dec.{eqb}
-use borrow.Author.Tests.{eqb-true, eqb-false}
 use Rattle.units.specs.LittleEndian.{u16At, u32At}
-use Rattle.units.specs.Rules.{Rule, first}
-use Rattle.units.specs.laws.Rules.{first-here}
 use Rattle.units.specs.Scan.{scan}
 
 -- n bytes from s on
@@ -41,11 +37,3 @@ unfolding scan
 same-scan hit other answer none i zero h = refl
 same-scan hit other answer none i (suc k) h =
     rw (h i (omega arith) (omega arith), same-scan hit other answer none (suc i) k (λ j l u. h j (omega arith) (omega arith)))
-
--- no test of two tables holds, so none of the first one does
-pub first-none : (a b : List Rule) → first (a ++ b) ≡ 0 → first a ≡ 0
-first-none a b h = go (eqb (first a) 0) refl
-  where
-    go : (t : Bool) → eqb (first a) 0 ≡ t → first a ≡ 0
-    go true e = eqb-true (first a) 0 e
-    go false e = sym (first-here a b (eqb-false (first a) 0 e)) ∙ h

@@ -1,25 +1,21 @@
 -- Laws of one scanline: its header, where it is lost, its status, the row's length and the bytes that it uses.
-use Prim.Native.Nat.{ℕ, _+_, _-_, _%_, _≤_, _<_}
+use Prim.Native.Nat.{ℕ, _+_, _-_, _≤_, _<_}
 use mathlib.Core.Path.{_≡_, refl, _∙_, ap}
 use mathlib.Core.Bool.{Bool, true, false, cond}
 use mathlib.Core.List.{List, [], _∷_, _++_}
 use native.Mathlib.Omega.{arith}
-use lib.ListN.{length, take, drop, replicate, length-append, length-take, length-drop, length-replicate}
-use lib.Seq.{getD-take, length-take-le}
+use lib.ListN.{length, take, drop, replicate, length-take, length-drop, length-replicate}
+use lib.Seq.{getD-take}
 use lib.Dec.{eqb, ltb}
 use borrow.Author.Tests.{lt-ltb, le-ltb, eq-eqb, ne-eqb, ltb-false, eqb-true, not-false}
+use Rattle.units.specs.Counts.{bytesOfWords, wordBytes}
 use Rattle.units.specs.LittleEndian.{byteAt, u16At}
 use Rattle.units.specs.Rules.{rule, first}
 use Rattle.units.specs.laws.Rules.{NoneHolds, none-holds, first-here, first-later, both-none}
-use Rattle.units.specs.Words.{words, wordCount, wordBytes}
-use Rattle.units.specs.laws.Words.{length-words}
-use Rattle.decode_body.specs.Pixels.{bytePixels, wordPixels, runPixels, pairPixels, pairTotal}
-use Rattle.decode_body.specs.Statuses.{byteRules, wordRules, runRules, pairRules, rowOf}
-use Rattle.decode_body.specs.Extents.{ExtentNumbers, taken, fault, byteExtent, wordExtent, runExtent, pairExtent}
-use Rattle.decode_body.specs.laws.Copy.{words-taken}
-use Rattle.decode_body.specs.laws.Runs.{length-runPixels, status-total, extent-within, extent-total}
-use Rattle.decode_body.specs.laws.Pairs.{pairs-fit, pairs-taken}
-use Rattle.layout.specs.Scanline.{bodyRules, bodyPixels, bodyExtent, headOf, following, bodySize, headRules, bodyOf, lostRules, placementRules, reading, isLost, openLost, headedLine, openLine, lineOf}
+use Rattle.codec.specs.Codec.{rowOf}
+use Rattle.codec.specs.Table.{bodyRules, bodyPixels, bodyExtent}
+use Rattle.codec.specs.laws.Lawful.{lawful}
+use Rattle.layout.specs.Scanline.{headOf, following, bodySize, headRules, bodyOf, lostRules, placementRules, reading, isLost, headedReading, openReading, headedStep, openStep, stepOf, readingOf}
 
 -- the header's fields, where they stand in the bytes that are left
 module _ (rest : List ℕ) where
@@ -43,7 +39,7 @@ module _ (rest : List ℕ) where
   unfolding headOf
   rest-whole h = omega (arith, length-take 8 rest)
 
-  body-is : first (headRules (headOf rest)) ≡ 0 → bodyOf rest ≡ take (bodySize (headOf rest)) (drop 8 rest)
+  body-is : first (headRules (headOf rest)) ≡ 0 → bodyOf rest ≡ take (bodySize (headOf rest) .0) (drop 8 rest)
   unfolding bodyOf
   body-is h = rw (eq-eqb (first (headRules (headOf rest))) 0 h)
 
@@ -69,48 +65,48 @@ module _ (rest : List ℕ) where
         head-good =
             simp (le-ltb _ _ (head-whole rest whole), head-byte rest 1 (omega arith), eq-eqb _ _ right, head-word rest 2 (omega arith), le-ltb _ _ enough)
 
-        length-body : length (bodyOf rest) ≡ length (take (bodySize (headOf rest)) (drop 8 rest))
+        length-body : length (bodyOf rest) ≡ length (take (bodySize (headOf rest) .0) (drop 8 rest))
         length-body = ap length (body-is rest head-good)
 
-        by-body : lostBy ≡ first (rule 1 (ltb (length (bodyOf rest)) (bodySize (headOf rest))) ∷ [])
-        by-body = first-later (headRules (headOf rest)) (rule 1 (ltb (length (bodyOf rest)) (bodySize (headOf rest))) ∷ []) tt head-good
+        by-body : lostBy ≡ first (rule 1 (ltb (length (bodyOf rest)) (bodySize (headOf rest) .0)) ∷ [])
+        by-body = first-later (headRules (headOf rest)) (rule 1 (ltb (length (bodyOf rest)) (bodySize (headOf rest) .0)) ∷ []) tt head-good
 
         pub lost-body : length rest < 4 + wordBytes (u16At rest 2) → lostBy ≡ 1
         lost-body h =
-            let n : length (bodyOf rest) < bodySize (headOf rest) =
-            omega (arith, head-word rest 2 (omega arith), length-body, length-take (bodySize (headOf rest)) (drop 8 rest), length-drop 8 rest) in
+            let n : length (bodyOf rest) < bodySize (headOf rest) .0 =
+            omega (arith, head-word rest 2 (omega arith), length-body, length-take (bodySize (headOf rest) .0) (drop 8 rest), length-drop 8 rest) in
             by-body ∙ simp (lt-ltb _ _ n)
 
         pub lost-not : 4 + wordBytes (u16At rest 2) ≤ length rest → lostBy ≡ 0
         lost-not h =
-            let n : bodySize (headOf rest) ≤ length (bodyOf rest) =
-            omega (arith, head-word rest 2 (omega arith), length-body, length-take (bodySize (headOf rest)) (drop 8 rest), length-drop 8 rest) in
+            let n : bodySize (headOf rest) .0 ≤ length (bodyOf rest) =
+            omega (arith, head-word rest 2 (omega arith), length-body, length-take (bodySize (headOf rest) .0) (drop 8 rest), length-drop 8 rest) in
             by-body ∙ simp (le-ltb _ _ n)
 
 -- what holds of a scanline with a header that is not lost
 pub record NotLost (rest : List ℕ) : Type 0 where
   pub whole : 8 ≤ length rest
-  pub words : 2 ≤ following (headOf rest)
-  pub within : 4 + wordBytes (following (headOf rest)) ≤ length rest
-  pub size : 4 + wordBytes (following (headOf rest)) ≡ 8 + length (bodyOf rest)
-  pub body : bodyOf rest ≡ take (4 + wordBytes (following (headOf rest)) - 8) (drop 8 rest)
+  pub words : 2 ≤ following (headOf rest) .0
+  pub within : 4 + bytesOfWords (following (headOf rest)) .0 ≤ length rest
+  pub size : 4 + bytesOfWords (following (headOf rest)) .0 ≡ 8 + length (bodyOf rest)
+  pub body : bodyOf rest ≡ take (4 + bytesOfWords (following (headOf rest)) .0 - 8) (drop 8 rest)
 
 pub not-lost : (rest : List ℕ) → lostBy rest ≡ 0 → NotLost rest
 not-lost rest e =
     let hd = headOf rest in
     let r : NoneHolds (lostRules hd (bodyOf rest)) = none-holds (lostRules hd (bodyOf rest)) tt e in
-    let good : first (headRules hd) ≡ 0 = simp (r .0, r .1 .0, r .1 .1 .0) in
-    let b : bodyOf rest ≡ take (bodySize hd) (drop 8 rest) = body-is rest good in
-    let full : bodySize hd ≤ length (bodyOf rest) = ltb-false (length (bodyOf rest)) (bodySize hd) (r .1 .1 .1 .0) in
+    let passed : first (headRules hd) ≡ 0 = simp (r .0, r .1 .0, r .1 .1 .0) in
+    let b : bodyOf rest ≡ take (bodySize hd .0) (drop 8 rest) = body-is rest passed in
+    let full : bodySize hd .0 ≤ length (bodyOf rest) = ltb-false (length (bodyOf rest)) (bodySize hd .0) (r .1 .1 .1 .0) in
     let l : 8 ≤ length rest = rest-whole rest (ltb-false (length hd) 8 (r .0)) in
-    let w : 2 ≤ following hd = ltb-false (following hd) 2 (r .1 .1 .0) in
-    let n : bodySize hd ≡ 4 + wordBytes (following hd) - 8 = omega arith in
-    let s : length (bodyOf rest) ≡ length (take (bodySize hd) (drop 8 rest)) = ap length b in
+    let w : 2 ≤ following hd .0 = ltb-false (following hd .0) 2 (r .1 .1 .0) in
+    let n : bodySize hd .0 ≡ 4 + bytesOfWords (following hd) .0 - 8 = omega arith in
+    let s : length (bodyOf rest) ≡ length (take (bodySize hd .0) (drop 8 rest)) = ap length b in
     record {
       whole = l;
       words = w;
-      within = omega (arith, length-take (bodySize hd) (drop 8 rest), length-drop 8 rest);
-      size = omega (arith, length-take (bodySize hd) (drop 8 rest), length-drop 8 rest);
+      within = omega (arith, length-take (bodySize hd .0) (drop 8 rest), length-drop 8 rest);
+      size = omega (arith, length-take (bodySize hd .0) (drop 8 rest), length-drop 8 rest);
       body = rw n at b;
     }
 
@@ -126,20 +122,6 @@ is-not-lost rest h = rw (eq-eqb (lostBy rest) 0 h)
 pub kept : (rest : List ℕ) → isLost rest ≡ false → NotLost rest
 unfolding isLost
 kept rest h = not-lost rest (eqb-true (lostBy rest) 0 (not-false (eqb (lostBy rest) 0) h))
-
--- and without a header
-module _ (t p : ℕ) (rest : List ℕ) where
-  pub open-lost : (bodyExtent t rest p .status ≡ 0 → ⊥) → openLost t p rest ≡ true
-  unfolding openLost
-  open-lost h = rw (ne-eqb (bodyExtent t rest p .status) 0 h)
-
-  pub open-not-lost : bodyExtent t rest p .status ≡ 0 → openLost t p rest ≡ false
-  unfolding openLost
-  open-not-lost h = rw (eq-eqb (bodyExtent t rest p .status) 0 h)
-
-  pub open-kept : openLost t p rest ≡ false → bodyExtent t rest p .status ≡ 0
-  unfolding openLost
-  open-kept h = eqb-true (bodyExtent t rest p .status) 0 (not-false (eqb (bodyExtent t rest p .status) 0) h)
 
 -- the status of a scanline with a header: that of the first part of the table that has one
 module _ (t p number : ℕ) (hd body : List ℕ) where
@@ -163,74 +145,17 @@ module _ (t p number : ℕ) (hd body : List ℕ) where
   row-by-status e = ap (λ (s : ℕ). rowOf s p (bodyPixels t body p)) e
 
 -- what the status 0 says
-pub record Good (t p number : ℕ) (hd b : List ℕ) : Type 0 where
+pub record NoFault (t p number : ℕ) (hd b : List ℕ) : Type 0 where
   pub frame : first (lostRules hd b) ≡ 0
   pub fields : first (placementRules number hd) ≡ 0
   pub body : first (bodyRules t b p) ≡ 0
 
-pub good : (t p number : ℕ) (hd body : List ℕ) → reading t p number hd body .status ≡ 0 → Good t p number hd body
+pub no-fault : (t p number : ℕ) (hd body : List ℕ) → reading t p number hd body .status ≡ 0 → NoFault t p number hd body
 unfolding reading
-good t p number hd body h =
+no-fault t p number hd body h =
     let a = both-none (lostRules hd body) (placementRules number hd ++ bodyRules t body p) tt h in
     let b = both-none (placementRules number hd) (bodyRules t body p) tt (a .1) in
     record { frame = a .0; fields = b .0; body = b .1 }
-
--- a body with the status 0 has as many pixels as the row
-length-pairPixels : (ws : List ℕ) → length (pairPixels ws) ≡ pairTotal ws
-unfolding pairPixels pairTotal
-length-pairPixels [] = refl
-length-pairPixels (v ∷ []) = refl
-length-pairPixels (v ∷ (n ∷ ws)) =
-    rw (length-append (replicate n v) (pairPixels ws), length-replicate n v, length-pairPixels ws)
-
-pub body-pixels : (t p : ℕ) (b : List ℕ) → first (bodyRules t b p) ≡ 0 → length (bodyPixels t b p) ≡ p
-unfolding bodyRules bodyPixels
-body-pixels t p b = by-type (eqb t 2) (eqb t 3) (eqb t 9)
-  where
-    by-type : (x y z : Bool) → first (cond x (byteRules b p) (cond y (wordRules b p) (cond z (runRules b p) (pairRules b p)))) ≡ 0
-        → length (cond x (bytePixels b p) (cond y (wordPixels b p) (cond z (runPixels 0 (words b)) (pairPixels (words b))))) ≡ p
-    by-type true y z h =
-        let n : length b ≡ p + p % 2 = eqb-true (length b) (p + p % 2) (not-false (eqb (length b) (p + p % 2)) (none-holds (byteRules b p) tt h .0)) in
-        length-take-le p b (omega arith)
-    by-type false true z h =
-        let n : wordCount b ≡ p = eqb-true (wordCount b) p (not-false (eqb (wordCount b) p) (none-holds (wordRules b p) tt h .0)) in
-        length-take-le p (words b) (omega (arith, length-words b))
-    by-type false false true h = length-runPixels 0 (words b) ∙ status-total b p h
-    by-type false false false h = length-pairPixels (words b) ∙ pairs-fit b p h
-
--- without a header: what is taken where there is no fault
-no-fault : (s : Bool) (n : ℕ) → cond s (fault 1) (taken n) .status ≡ 0 → s ≡ false
-no-fault true n h = absurd (omega arith)
-no-fault false n h = refl
-
-pub body-taken : (t p : ℕ) (r : List ℕ) → bodyExtent t r p .status ≡ 0
-    → (bodyExtent t r p .used ≤ length r) × (length (bodyPixels t (take (bodyExtent t r p .used) r) p) ≡ p)
-unfolding bodyExtent bodyPixels
-body-taken t p r = by-type (eqb t 2) (eqb t 3) (eqb t 9)
-  where
-    extent : Bool → Bool → Bool → ExtentNumbers
-    extent x y z = cond x (byteExtent r p) (cond y (wordExtent r p) (cond z (runExtent r p) (pairExtent r p)))
-
-    pixels : Bool → Bool → Bool → List ℕ → List ℕ
-    pixels x y z b = cond x (bytePixels b p) (cond y (wordPixels b p) (cond z (runPixels 0 (words b)) (pairPixels (words b))))
-
-    by-type : (x y z : Bool) → extent x y z .status ≡ 0
-        → (extent x y z .used ≤ length r) × (length (pixels x y z (take (extent x y z .used) r)) ≡ p)
-    by-type true y z h =
-        let e : ltb (length r) p ≡ false = no-fault (ltb (length r) p) p h in
-        let n : p ≤ length r = ltb-false (length r) p e in
-        rw e (n, length-take-le p (take p r) (omega (arith, length-take-le p r n)))
-    by-type false true z h =
-        let e : ltb (wordCount r) p ≡ false = no-fault (ltb (wordCount r) p) (wordBytes p) h in
-        let n : p ≤ wordCount r = ltb-false (wordCount r) p e in
-        rw e (omega arith, ap length (words-taken r p) ∙ length-take-le p (words r) (omega (arith, length-words r)))
-    by-type false false true h = (
-      extent-within r p (runExtent r p) refl h,
-      length-runPixels 0 (words (take (runExtent r p .used) r)) ∙ extent-total r p (runExtent r p) refl h,
-    )
-    by-type false false false h =
-        let w = pairs-taken r p (pairExtent r p) refl h in
-        (w .0, length-pairPixels (words (take (pairExtent r p .used) r)) ∙ w .1)
 
 -- A scanline uses no more than the bytes that are left, and none where it is lost. Its row has the length that is asked for.
 cond-within : (s : Bool) (n m : ℕ) → (s ≡ false → n ≤ m) → cond s 0 n ≤ m
@@ -244,31 +169,29 @@ rowOf-length n p xs h = go (eqb n 0) refl
     go true e = h (eqb-true n 0 e)
     go false e = length-replicate p 0
 
-module _ (scn t p number : ℕ) (rest : List ℕ) where
-  pub used-within : lineOf scn t p number rest .used ≤ length rest
+module _ (scn t p : ℕ) (rest : List ℕ) where
+  pub used-within : stepOf scn t p rest .used .0 ≤ length rest
   used-within = go (eqb scn 1)
     where
-      go : (s : Bool) → cond s (headedLine t p number rest) (openLine t p rest) .used ≤ length rest
-      go true = cond-within (isLost rest) (4 + wordBytes (following (headOf rest))) (length rest) (λ e. kept rest e .within)
-      go false =
-          cond-within (openLost t p rest) (bodyExtent t rest p .used) (length rest) (λ e. body-taken t p rest (open-kept t p rest e) .0)
+      go : (s : Bool) → cond s (headedStep rest) (openStep t p rest) .used .0 ≤ length rest
+      go true = cond-within (isLost rest) (4 + bytesOfWords (following (headOf rest)) .0) (length rest) (λ e. kept rest e .within)
+      go false = cond-within (bodyExtent t rest p .lost) (bodyExtent t rest p .used .0) (length rest) (lawful t .within rest p)
 
-  pub lost-used : lineOf scn t p number rest .lost ≡ true → lineOf scn t p number rest .used ≡ 0
+  pub lost-used : stepOf scn t p rest .lost ≡ true → stepOf scn t p rest .used .0 ≡ 0
   lost-used = go (eqb scn 1)
     where
-      go : (s : Bool) → cond s (headedLine t p number rest) (openLine t p rest) .lost ≡ true
-          → cond s (headedLine t p number rest) (openLine t p rest) .used ≡ 0
+      go : (s : Bool) → cond s (headedStep rest) (openStep t p rest) .lost ≡ true → cond s (headedStep rest) (openStep t p rest) .used .0 ≡ 0
       go true e = rw e
       go false e = rw e
 
-  pub length-row : length (lineOf scn t p number rest .reading .row) ≡ p
-  length-row = go (eqb scn 1)
+  pub length-row : (number : ℕ) → length (readingOf scn t p number rest .row) ≡ p
+  length-row number = go (eqb scn 1)
     where
-      go : (s : Bool) → length (cond s (headedLine t p number rest) (openLine t p rest) .reading .row) ≡ p
+      go : (s : Bool) → length (cond s (headedReading t p number rest) (openReading t p rest) .row) ≡ p
       go true =
           ap length (row-by-status t p number (headOf rest) (bodyOf rest) refl)
           ∙ rowOf-length (reading t p number (headOf rest) (bodyOf rest) .status) p (bodyPixels t (bodyOf rest) p)
-          (λ e. body-pixels t p (bodyOf rest) (good t p number (headOf rest) (bodyOf rest) e .body))
+          (λ e. lawful t .full (bodyOf rest) p (no-fault t p number (headOf rest) (bodyOf rest) e .body))
       go false =
-          rowOf-length (bodyExtent t rest p .status) p (bodyPixels t (take (bodyExtent t rest p .used) rest) p)
-          (λ e. body-taken t p rest e .1)
+          rowOf-length (bodyExtent t rest p .status) p (bodyPixels t (take (bodyExtent t rest p .used .0) rest) p)
+          (lawful t .taken-full rest p)

@@ -1,20 +1,24 @@
--- The chain of a file that is a header followed by the scanlines of a picture: each is reached where it was written, and is good.
+-- The chain of a raster whose bytes are a header followed by the scanlines of a picture: each is reached where it was written,
+-- and is good.
 use Prim.Native.Nat.{ℕ, zero, suc, _+_, _*_, _≤_, _<_}
-use mathlib.Core.Path.{_≡_, refl, sym, _∙_, ap, subst}
-use mathlib.Core.Bool.{true, false}
+use mathlib.Core.Path.{_≡_, refl, sym, _∙_, ap, subst⁻¹}
+use mathlib.Core.Bool.{true}
 use mathlib.Core.Logic.{inl, inr}
 use mathlib.Core.List.{List, [], _++_, append-nil, append-assoc}
 use native.Mathlib.Nat.{suc-mul, zero-mul}
 use native.Mathlib.Numerals.{add-one}
 use native.Mathlib.Omega.{arith}
-use lib.ListN.{length, take, drop, replicate, length-append, replicate-append-replicate}
+use lib.ListN.{length, take, drop, length-append, replicate-append-replicate}
 use lib.Seq.{drop-at, take-add}
-use Rattle.layout.specs.Scanline.{Line, Reading, lineOf}
-use Rattle.layout.specs.Chain.{scnOf, typeOf, pplOf, dataStart, lineAt, start, reached, readingAt, rows, statuses, good}
-use Rattle.encode_raster.specs.Picture.{Picture, rowAt}
+use Rattle.units.specs.laws.Numbers.{below-next}
+use Rattle.units.specs.Over.{zeros}
+use Rattle.layout.specs.Scanline.{Reading, Step, stepOf, readingOf}
+use Rattle.layout.specs.Chain.{Raster, from, stepAt, start, reached, numberOf, readingAt, rows, statuses, goodCount}
+use Rattle.layout.specs.laws.Chain.{start-zero, start-suc, reached-zero, reached-suc, reading-reached}
+use Rattle.encode_header.specs.Picture.{Picture, rowAt}
 use Rattle.encode_raster.specs.File.{lineBytes, linesOf}
 use Rattle.read_back.specs.laws.Given.{Given}
-use Rattle.read_back.specs.laws.Rows.{below-next, row-facts}
+use Rattle.read_back.specs.laws.Rows.{row-facts}
 use Rattle.read_back.specs.laws.Line.{Back, line-back}
 
 abbrev lineOfPicture : Picture → ℕ → List ℕ
@@ -47,94 +51,76 @@ lines-split i (suc n) k h =
       )
     ]
 
--- a file whose fields are the picture's
-pub record Written (i : Picture) (f hd : List ℕ) : Type 0 where
-  pub file : f ≡ hd ++ linesOf i (i .nol)
-  pub starts : dataStart f ≡ length hd
-  pub scn : scnOf f ≡ i .scn
-  pub type : typeOf f ≡ i .dtc
-  pub ppl : pplOf f ≡ i .ppl
+-- a raster whose fields are the picture's
+pub record Written (i : Picture) (r : Raster) (hd : List ℕ) : Type 0 where
+  pub file : r .bytes ≡ hd ++ linesOf i (i .nol)
+  pub starts : r .dataStart ≡ length hd
+  pub scn : r .scn ≡ i .scn
+  pub type : r .dataType ≡ i .dtc
+  pub ppl : r .ppl ≡ i .ppl
 
-module _ (f : List ℕ) where
-  start-none : start f zero ≡ dataStart f
-  unfolding start
-  start-none = refl
-
-  start-next : (k : ℕ) → start f (suc k) ≡ start f k + lineAt f (start f k) k .used
-  unfolding start
-  start-next k = refl
-
-  reached-none : reached f zero ≡ true
-  unfolding reached
-  reached-none = refl
-
-  reached-next : (k : ℕ) → reached f k ≡ true → lineAt f (start f k) k .lost ≡ false → reached f (suc k) ≡ true
-  unfolding reached
-  reached-next k r l = rw (r, l)
-
-  was-read : (k : ℕ) → reached f k ≡ true → readingAt f k ≡ lineAt f (start f k) k .reading
-  unfolding readingAt
-  was-read k r = rw r
-
-module _ (i : Picture) (f hd : List ℕ) (g : Given i) (w : Written i f hd) where
-  from-there : (k : ℕ) → k < i .nol → start f k ≡ length hd + length (linesOf i k)
-      → (rest : List ℕ) × (drop (start f k) f ≡ lineOfPicture i k ++ rest)
+module _ (i : Picture) (r : Raster) (hd : List ℕ) (g : Given i) (w : Written i r hd) where
+  from-there : (k : ℕ) → k < i .nol → start r k ≡ length hd + length (linesOf i k)
+      → (rest : List ℕ) × (from r (start r k) ≡ lineOfPicture i k ++ rest)
   from-there k h s =
       let l = lines-split i (i .nol) k h in
-      let e : f ≡ (hd ++ linesOf i k) ++ (lineOfPicture i k ++ l .0) =
+      let e : r .bytes ≡ (hd ++ linesOf i k) ++ (lineOfPicture i k ++ l .0) =
       w .file ∙ ap (λ (x : List ℕ). hd ++ x) (l .1) ∙ sym (append-assoc hd (linesOf i k) (lineOfPicture i k ++ l .0)) in (
         l .0,
-        ap (drop (start f k)) e
-            ∙ drop-at (hd ++ linesOf i k) (lineOfPicture i k ++ l .0) (start f k) (length-append hd (linesOf i k) ∙ sym s),
+        ap (drop (start r k)) e
+            ∙ drop-at (hd ++ linesOf i k) (lineOfPicture i k ++ l .0) (start r k) (length-append hd (linesOf i k) ∙ sym s),
       )
 
-  there : (k : ℕ) → k < i .nol → start f k ≡ length hd + length (linesOf i k)
-      → Back (lineAt f (start f k) k) (rowAt i k) (length (lineOfPicture i k))
+  there : (k : ℕ) → k < i .nol → start r k ≡ length hd + length (linesOf i k)
+      → Back (stepAt r (start r k)) (readingOf (r .scn) (r .dataType) (r .ppl) (numberOf r k) (from r (start r k))) (rowAt i k) (length (lineOfPicture i k))
   there k h s =
       let d = from-there k h s in
-      let r = row-facts i g k h in
-      let e : lineAt f (start f k) k ≡ lineOf (i .scn) (i .dtc) (i .ppl) (k + 1) (lineOfPicture i k ++ d .0) =
-      λ j. lineOf (w .scn j) (w .type j) (w .ppl j) (k + 1) (d .1 j) in
-      subst (λ (x : Line). Back x (rowAt i k) (length (lineOfPicture i k))) (sym e)
-      (line-back (i .scn) (i .dtc) (i .ppl) (k + 1) (rowAt i k) (d .0) (g .scn) (r .full) (r .back))
+      let x = row-facts i g k h in
+      let all = lineOfPicture i k ++ d .0 in
+      let steps : stepAt r (start r k) ≡ stepOf (i .scn) (i .dtc) (i .ppl) all = λ j. stepOf (w .scn j) (w .type j) (w .ppl j) (d .1 j) in
+      let readings : readingOf (r .scn) (r .dataType) (r .ppl) (k + 1) (from r (start r k)) ≡ readingOf (i .scn) (i .dtc) (i .ppl) (k + 1) all =
+      λ j. readingOf (w .scn j) (w .type j) (w .ppl j) (k + 1) (d .1 j) in
+      subst⁻¹ (λ (y : Step). Back y (readingOf (r .scn) (r .dataType) (r .ppl) (k + 1) (from r (start r k))) (rowAt i k) (length (lineOfPicture i k))) steps
+      (subst⁻¹ (λ (y : Reading). Back (stepOf (i .scn) (i .dtc) (i .ppl) all) y (rowAt i k) (length (lineOfPicture i k))) readings
+      (line-back (i .scn) (i .dtc) (i .ppl) (k + 1) (rowAt i k) (d .0) (g .limits .scn-most) (x .full) (x .back)))
 
-  reaches : (k : ℕ) → k ≤ i .nol → (start f k ≡ length hd + length (linesOf i k)) × (reached f k ≡ true)
-  reaches zero h = (omega (arith, start-none f, w .starts, ap length (lines-none i)), reached-none f)
+  reaches : (k : ℕ) → k ≤ i .nol → (start r k ≡ length hd + length (linesOf i k)) × (reached r k ≡ true)
+  reaches zero h = (omega (arith, start-zero r, w .starts, ap length (lines-none i)), reached-zero r)
   reaches (suc k) h =
-      let r = reaches k (omega arith) in
-      let b = there k h (r .0) in (
-        omega (arith, start-next f k, r .0, b .used, ap length (lines-next i k), length-append (linesOf i k) (lineOfPicture i k)),
-        reached-next f k (r .1) (b .lost),
+      let q = reaches k (omega arith) in
+      let b = there k h (q .0) in (
+        omega (arith, start-suc r k, q .0, b .used, ap length (lines-next i k), length-append (linesOf i k) (lineOfPicture i k)),
+        reached-suc r k ∙ rw (q .1, b .lost),
       )
 
   pub record Reads (k : ℕ) : Type 0 where
-    pub status : readingAt f k .status ≡ 0
-    pub row : readingAt f k .row ≡ rowAt i k
+    pub status : readingAt r k .status ≡ 0
+    pub row : readingAt r k .row ≡ rowAt i k
 
   reads : (k : ℕ) → k < i .nol → Reads k
   reads k h =
-      let r = reaches k (omega arith) in
-      let b = there k h (r .0) in
-      let e = was-read f k (r .1) in
+      let q = reaches k (omega arith) in
+      let b = there k h (q .0) in
+      let e = reading-reached r k (q .1) in
       record { status = ap (λ (x : Reading). x .status) e ∙ b .status; row = ap (λ (x : Reading). x .row) e ∙ b .pixels }
 
   -- of the first n scanlines
-  pub statuses-are : (n : ℕ) → n ≤ i .nol → statuses f n ≡ replicate n 0
+  pub statuses-are : (n : ℕ) → n ≤ i .nol → statuses r n ≡ zeros n
   unfolding statuses
   statuses-are zero h = refl
   statuses-are (suc n) h =
       rw (statuses-are n (omega arith), reads n h .status, replicate-append-replicate {A = ℕ} n 1 0, add-one n)
 
-  pub rows-are : (n : ℕ) → n ≤ i .nol → rows f n ≡ take (n * i .ppl) (i .pixels)
+  pub rows-are : (n : ℕ) → n ≤ i .nol → rows r n ≡ take (n * i .ppl) (i .pixels)
   unfolding rows
   rows-are zero h = rw (zero-mul (i .ppl))
   rows-are (suc n) h =
       rw (rows-are n (omega arith), reads n h .row, suc-mul n (i .ppl)) (sym (take-add (n * i .ppl) (i .ppl) (i .pixels)))
 
-  pub good-are : (n : ℕ) → n ≤ i .nol → good f n ≡ n
-  unfolding good
+  pub good-are : (n : ℕ) → n ≤ i .nol → goodCount r n ≡ n
+  unfolding goodCount
   good-are zero h = refl
   good-are (suc n) h = rw (good-are n (omega arith), reads n h .status) (add-one n)
 
-  pub end-is : start f (i .nol) ≡ length f
+  pub end-is : start r (i .nol) ≡ length (r .bytes)
   end-is = omega (arith, reaches (i .nol) (omega arith) .0, ap length (w .file), length-append hd (linesOf i (i .nol)))

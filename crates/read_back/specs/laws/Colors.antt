@@ -11,12 +11,12 @@ use borrow.Author.Tests.{eqb-true, ltb-false}
 use Rattle.units.specs.LittleEndian.{byteAt}
 use Rattle.header.specs.declared.fields.Fields.{Fields}
 use Rattle.header.specs.Fields.{fieldsOf}
-use Rattle.color.specs.Color.{color, noColor, grayColor, igdsColor, environColor, colorReading}
-use Rattle.encode_raster.specs.Picture.{Picture}
-use Rattle.encode_raster.specs.Header.{tableArea}
+use Rattle.color.specs.Color.{scaled, color, noColor, grayColor, igdsColor, environColor, colorReading}
+use Rattle.encode_header.specs.Picture.{Picture}
+use Rattle.encode_header.specs.Header.{tableArea}
 use Rattle.encode_raster.specs.File.{linesOf, fileBytes}
 use Rattle.read_back.specs.Statement.{givenColor}
-use Rattle.read_back.specs.laws.Given.{Bytes, Given}
+use Rattle.read_back.specs.laws.Given.{Given}
 use Rattle.read_back.specs.laws.Head.{front, file-is, length-front, ctvIf, fields-are}
 use Rattle.read_back.specs.laws.Accepted.{not-rejected}
 
@@ -36,13 +36,13 @@ Bytes768 f table = (n : ℕ) → n < 768 → byteAt f (768 + n) ≡ getD table n
 
 igds-is : (f table : List ℕ) → Bytes768 f table → (v : ℕ)
     → igdsColor f v
-    ≡ cond (ltb 255 v) (noColor 25) (color (256 * getD table (3 * v) 0) (256 * getD table (3 * v + 1) 0) (256 * getD table (3 * v + 2) 0))
+    ≡ cond (ltb 255 v) (noColor 25) (color (scaled (getD table (3 * v) 0)) (scaled (getD table (3 * v + 1) 0)) (scaled (getD table (3 * v + 2) 0)))
 igds-is f table h v = go (ltb 255 v) refl
   where
     go : (t : Bool) → ltb 255 v ≡ t
         → cond t (noColor 25)
-        (color (256 * byteAt f (768 + 3 * v)) (256 * byteAt f (768 + 3 * v + 1)) (256 * byteAt f (768 + 3 * v + 2)))
-        ≡ cond t (noColor 25) (color (256 * getD table (3 * v) 0) (256 * getD table (3 * v + 1) 0) (256 * getD table (3 * v + 2) 0))
+        (color (scaled (byteAt f (768 + 3 * v))) (scaled (byteAt f (768 + 3 * v + 1))) (scaled (byteAt f (768 + 3 * v + 2))))
+        ≡ cond t (noColor 25) (color (scaled (getD table (3 * v) 0)) (scaled (getD table (3 * v + 1) 0)) (scaled (getD table (3 * v + 2) 0)))
     go true e = refl
     go false e =
         let l : v ≤ 255 = ltb-false 255 v e in
@@ -51,13 +51,13 @@ igds-is f table h v = go (ltb 255 v) refl
         let red = h (3 * v) (omega arith) in
         let green = ap (byteAt f) s ∙ h (3 * v + 1) (omega arith) in
         let blue = ap (byteAt f) u ∙ h (3 * v + 2) (omega arith) in
-        λ j. color (256 * red j) (256 * green j) (256 * blue j)
+        λ j. color (scaled (red j)) (scaled (green j)) (scaled (blue j))
 
 -- by whether there is one
 color-if : (f table : List ℕ) (ctv v : ℕ) (none : Bool) → ctv ≡ ctvIf none → (none ≡ false → Bytes768 f table)
     → cond (eqb ctv 0) (grayColor v) (cond (eqb ctv 1) (igdsColor f v) (environColor f (fieldsOf f .cte) v))
     ≡ cond none (grayColor v)
-    (cond (ltb 255 v) (noColor 25) (color (256 * getD table (3 * v) 0) (256 * getD table (3 * v + 1) 0) (256 * getD table (3 * v + 2) 0)))
+    (cond (ltb 255 v) (noColor 25) (color (scaled (getD table (3 * v) 0)) (scaled (getD table (3 * v + 1) 0)) (scaled (getD table (3 * v + 2) 0))))
 color-if f table ctv v true e h = rw e
 color-if f table ctv v false e h = rw e (igds-is f table (h refl) v)
 
@@ -68,7 +68,7 @@ table-bytes i g e n h =
     let a : tableArea (i .table) ≡ i .table = rw e in
     area-byte i n (omega (arith, ap length a)) ∙ ap (λ (x : List ℕ). getD x n 0) a
 
-pub colors-are : (i : Picture) → Bytes i → Given i → (v : ℕ) → colorReading (fileBytes i) v ≡ givenColor i v
+pub colors-are : (i : Picture) → i .drs < 65536 → Given i → (v : ℕ) → colorReading (fileBytes i) v ≡ givenColor i v
 colors-are i b g v =
     rw (not-rejected i b g)
     (color-if (fileBytes i) (i .table) (fieldsOf (fileBytes i) .ctv) v (eqb (length (i .table)) 0)

@@ -1,20 +1,21 @@
 -- The header of a written file: its fields are those given.
 use Prim.Native.Nat.{ℕ, _+_, _-_, _*_, _/_, _%_, _≤_, _<_}
 use mathlib.Core.Path.{_≡_, refl}
-use mathlib.Core.Bool.{Bool, true, false, cond, _||_}
+use mathlib.Core.Bool.{Bool, true, false, cond}
 use mathlib.Core.List.{List, _++_}
 use native.Mathlib.Omega.{arith}
 use lib.ListN.{length, take}
 use lib.Dec.{eqb}
-use borrow.Author.Tests.{eqb-true}
+use Rattle.units.specs.declared.Blocks.{Blocks}
+use Rattle.units.specs.Counts.{nBlocks, nWords, wordsOfBlocks}
 use Rattle.units.specs.LittleEndian.{u16At, u32At}
 use Rattle.header.specs.declared.fields.Fields.{Fields}
 use Rattle.header.specs.Fields.{fieldsOf}
-use Rattle.header.specs.Rejections.{isDataType}
-use Rattle.encode_raster.specs.Picture.{Picture}
-use Rattle.encode_raster.specs.Header.{headerBytes, tableArea}
+use Rattle.codec.specs.laws.Table.{type-most}
+use Rattle.encode_header.specs.Picture.{Picture}
+use Rattle.encode_header.specs.Header.{headerBytes, tableArea}
 use Rattle.encode_raster.specs.File.{linesOf, fileBytes}
-use Rattle.read_back.specs.laws.Given.{Bytes, Given}
+use Rattle.read_back.specs.laws.Given.{Given}
 
 -- the file: the header up to the table area, that area, and the scanlines
 pub front : Picture → List ℕ
@@ -33,11 +34,14 @@ module _ (i : Picture) where
 abbrev pub ctvIf : Bool → ℕ
 ctvIf none = cond none 0 1
 
+abbrev pub blocksIf : Bool → Blocks
+blocksIf none = nBlocks (cond none 2 3)
+
 abbrev pub fieldsIf : Picture → Bool → Fields
 fieldsIf i none =
     record {
       htc = 0x0908;
-      wtf = 256 * (2 + ctvIf none) - 2;
+      wtf = nWords (wordsOfBlocks (blocksIf none) .0 - 2);
       dtc = i .dtc;
       ppl = i .ppl;
       nol = i .nol;
@@ -60,44 +64,37 @@ stored-long : (v : ℕ) → v < 65536
     → (v % 256 + 256 * (v / 256 % 256)) + 65536 * (v / 65536 % 256 + 256 * (v / 65536 / 256 % 256)) ≡ v
 stored-long v h = omega arith
 
-type-low : (t : ℕ) → isDataType t ≡ true → t ≤ 10
-unfolding isDataType
-type-low t h = go (eqb t 2) (eqb t 3) (eqb t 9) (eqb t 10) refl refl refl refl h
-  where
-    go : (x y z u : Bool) → eqb t 2 ≡ x → eqb t 3 ≡ y → eqb t 9 ≡ z → eqb t 10 ≡ u → (x || (y || (z || (u || false)))) ≡ true → t ≤ 10
-    go true y z u a b c d h = omega (arith, eqb-true t 2 a)
-    go false true z u a b c d h = omega (arith, eqb-true t 3 b)
-    go false false true u a b c d h = omega (arith, eqb-true t 9 c)
-    go false false false true a b c d h = omega (arith, eqb-true t 10 d)
-    go false false false false a b c d h = absurd (let z : _≡_ {A = ℕ} 0 1 = cc in omega arith)
-
 pub ctv-low : (none : Bool) → ctvIf none ≤ 1
 ctv-low true = omega arith
 ctv-low false = omega arith
 
-module _ (i : Picture) (b : Bytes i) (g : Given i) where
+pub blocks-low : (none : Bool) → (2 ≤ blocksIf none .0) × (blocksIf none .0 ≤ 3)
+blocks-low true = omega arith
+blocks-low false = omega arith
+
+module _ (i : Picture) (b : i .drs < 65536) (g : Given i) where
   c : ctvIf (eqb (length (i .table)) 0) ≤ 1
   c = ctv-low (eqb (length (i .table)) 0)
 
-  wtf-is : u16At (fileBytes i) 2 ≡ givenFields i .wtf
+  wtf-is : u16At (fileBytes i) 2 ≡ givenFields i .wtf .0
   unfolding fileBytes u16At
-  wtf-is = stored (givenFields i .wtf) (omega (arith, c))
+  wtf-is = stored (givenFields i .wtf .0) (omega (arith, blocks-low (eqb (length (i .table)) 0)))
 
   dtc-is : u16At (fileBytes i) 4 ≡ i .dtc
   unfolding fileBytes u16At
-  dtc-is = stored (i .dtc) (omega (arith, type-low (i .dtc) (g .dataType)))
+  dtc-is = stored (i .dtc) (omega (arith, type-most (i .dtc) (g .limits .known)))
 
   ppl-is : u32At (fileBytes i) 184 ≡ i .ppl
   unfolding fileBytes u16At u32At
-  ppl-is = stored-long (i .ppl) (omega (arith, g .pplHigh))
+  ppl-is = stored-long (i .ppl) (omega (arith, g .limits .ppl-most))
 
   nol-is : u32At (fileBytes i) 188 ≡ i .nol
   unfolding fileBytes u16At u32At
-  nol-is = stored-long (i .nol) (omega (arith, g .nolHigh))
+  nol-is = stored-long (i .nol) (omega (arith, g .limits .nol-most))
 
   drs-is : u16At (fileBytes i) 192 ≡ i .drs
   unfolding fileBytes u16At
-  drs-is = stored (i .drs) (b .drs)
+  drs-is = stored (i .drs) b
 
   ctv-is : u16At (fileBytes i) 532 ≡ givenFields i .ctv
   unfolding fileBytes u16At
@@ -109,7 +106,7 @@ module _ (i : Picture) (b : Bytes i) (g : Given i) where
       λ j.
       record {
         htc = 0x0908;
-        wtf = wtf-is j;
+        wtf = record { 0 = wtf-is j };
         dtc = dtc-is j;
         ppl = ppl-is j;
         nol = nol-is j;

@@ -8,26 +8,24 @@ use lib.ListN.{length, take, drop, length-append}
 use lib.Seq.{take-at}
 use lib.Dec.{eqb}
 use borrow.Author.Tests.{eq-eqb, eqb-true, eqb-false}
+use Rattle.units.specs.Counts.{bytesOfWords}
 use Rattle.units.specs.LittleEndian.{byteAt, u16At}
 use Rattle.units.specs.Rules.{first}
-use Rattle.units.specs.Words.{wordCount, wordBytes}
-use Rattle.decode_body.specs.Extents.{ExtentNumbers}
-use Rattle.decode_body.specs.Statuses.{rowOf}
-use Rattle.encode_body.specs.Bodies.{wordsToBytes}
-use Rattle.encode_body.specs.laws.RoundTrip.{ReadBack}
-use Rattle.layout.specs.Scanline.{bodyRules, bodyPixels, bodyExtent, headOf, bodyOf, following, placementRules, reading, Line, isLost, openLost, headedLine, openLine, lineOf}
-use Rattle.layout.specs.laws.Line.{lostBy, lost-not, not-lost, is-not-lost, open-not-lost, status-body, row-by-status, head-word}
-use Rattle.encode_raster.specs.File.{bodyBytes, lineHeader, lineBytes}
+use Rattle.units.specs.Words.{wordsToBytes, wordCount}
+use Rattle.codec.specs.declared.Extent.{Extent}
+use Rattle.codec.specs.Codec.{rowOf}
+use Rattle.codec.specs.Table.{codecOf, bodyRules, bodyPixels, bodyExtent, bodyBytes}
+use Rattle.codec.specs.laws.RoundTrip.{ReadBack}
+use Rattle.layout.specs.Scanline.{headOf, bodyOf, following, placementRules, Reading, reading, Step, isLost, headedReading, openReading, headedStep, openStep, stepOf, readingOf}
+use Rattle.layout.specs.laws.Line.{lostBy, lost-not, not-lost, is-not-lost, status-body, row-by-status, head-word}
+use Rattle.encode_raster.specs.File.{lineHeader, lineBytes}
 
 -- a good reading of a row, and as many bytes as were written
-pub record Back (line : Line) (row : List ℕ) (size : ℕ) : Type 0 where
-  pub status : line .reading .status ≡ 0
-  pub pixels : line .reading .row ≡ row
-  pub lost : line .lost ≡ false
-  pub used : line .used ≡ size
-
-abbrev ReadsAs : ℕ → List ℕ → Type 0
-ReadsAs t row = ReadBack (bodyRules t) (bodyPixels t) (bodyExtent t) (bodyBytes t 1 row) (bodyBytes t 0 row) row
+pub record Back (s : Step) (x : Reading) (row : List ℕ) (size : ℕ) : Type 0 where
+  pub status : x .status ≡ 0
+  pub pixels : x .row ≡ row
+  pub lost : s .lost ≡ false
+  pub used : s .used .0 ≡ size
 
 -- a scanline header and what follows it
 module _ (number : ℕ) (body rest : List ℕ) where
@@ -38,7 +36,7 @@ module _ (number : ℕ) (body rest : List ℕ) where
   unfolding wordsToBytes
   identifier = refl
 
-  follow : u16At whole 2 ≡ wordCount body + 2
+  follow : u16At whole 2 ≡ wordCount body .0 + 2
   unfolding wordsToBytes u16At
   follow = omega arith
 
@@ -70,28 +68,28 @@ module _ (number : ℕ) (body rest : List ℕ) where
   body-back : length body % 2 ≡ 0 → bodyOf whole ≡ body
   body-back even =
       let l = not-lost whole (kept even) in
-      let n : length body ≡ 4 + wordBytes (following (headOf whole)) - 8 = omega (arith, head-word whole 2 (omega arith), follow) in
+      let n : length body ≡ 4 + bytesOfWords (following (headOf whole)) .0 - 8 = omega (arith, head-word whole 2 (omega arith), follow) in
       l .body
-      ∙ ap (take (4 + wordBytes (following (headOf whole)) - 8)) after
-      ∙ take-at body rest (4 + wordBytes (following (headOf whole)) - 8) n
+      ∙ ap (take (4 + bytesOfWords (following (headOf whole)) .0 - 8)) after
+      ∙ take-at body rest (4 + bytesOfWords (following (headOf whole)) .0 - 8) n
 
-  fields-right : first (placementRules number (headOf whole)) ≡ 0
-  fields-right =
+  placed : first (placementRules number (headOf whole)) ≡ 0
+  placed =
       simp (
         eq-eqb (u16At (headOf whole) 4) number (head-word whole 4 (omega arith) ∙ line-number),
         eq-eqb (u16At (headOf whole) 6) 0 (head-word whole 6 (omega arith) ∙ offset),
       )
 
-headed : (t number : ℕ) (row rest : List ℕ) → ReadsAs t row
-    → Back (headedLine t (length row) number (whole number (bodyBytes t 1 row) rest)) row
-    (length (lineHeader number (bodyBytes t 1 row) ++ bodyBytes t 1 row))
+headed : (t number : ℕ) (row rest : List ℕ) → ReadBack (codecOf t) row
+    → let all = whole number (bodyBytes t 1 row) rest in
+    Back (headedStep all) (headedReading t (length row) number all) row (length (lineHeader number (bodyBytes t 1 row) ++ bodyBytes t 1 row))
 headed t number row rest b =
     let body = bodyBytes t 1 row in
     let all = whole number body rest in
     let k = kept number body rest (b .headed-whole) in
     let e : bodyOf all ≡ body = body-back number body rest (b .headed-whole) in
     let s : reading t (length row) number (headOf all) (bodyOf all) .status ≡ 0 =
-    status-body t (length row) number (headOf all) (bodyOf all) k (fields-right number body rest)
+    status-body t (length row) number (headOf all) (bodyOf all) k (placed number body rest)
     ∙ ap (λ (x : List ℕ). first (bodyRules t x (length row))) e
     ∙ b .headed-status in
     let l : isLost all ≡ false = is-not-lost all k in
@@ -105,14 +103,15 @@ headed t number row rest b =
       used = rw l (omega (arith, not-lost all k .size, ap length e, length-line number body rest));
     }
 
-unheaded : (t : ℕ) (row rest : List ℕ) → ReadsAs t row
-    → Back (openLine t (length row) (bodyBytes t 0 row ++ rest)) row (length (bodyBytes t 0 row))
+unheaded : (t : ℕ) (row rest : List ℕ) → ReadBack (codecOf t) row
+    → let all = bodyBytes t 0 row ++ rest in
+    Back (openStep t (length row) all) (openReading t (length row) all) row (length (bodyBytes t 0 row))
 unheaded t row rest b =
     let all = bodyBytes t 0 row ++ rest in
     let e = b .open-extent rest in
-    let s : bodyExtent t all (length row) .status ≡ 0 = ap (λ (x : ExtentNumbers). x .status) e in
-    let u : bodyExtent t all (length row) .used ≡ length (bodyBytes t 0 row) = ap (λ (x : ExtentNumbers). x .used) e in
-    let l : openLost t (length row) all ≡ false = open-not-lost t (length row) all s in
+    let s : bodyExtent t all (length row) .status ≡ 0 = ap (λ (x : Extent). x .status) e in
+    let u : bodyExtent t all (length row) .used .0 ≡ length (bodyBytes t 0 row) = ap (λ (x : Extent). x .used .0) e in
+    let l : bodyExtent t all (length row) .lost ≡ false = ap (λ (x : Extent). x .lost) e in
     record {
       status = s;
       pixels =
@@ -123,15 +122,19 @@ unheaded t row rest b =
     }
 
 -- by SCN
-pub line-back : (scn t p number : ℕ) (row rest : List ℕ) → scn ≤ 1 → length row ≡ p → ReadsAs t row
-    → Back (lineOf scn t p number (lineBytes t scn number row ++ rest)) row (length (lineBytes t scn number row))
-unfolding lineBytes
+bytes-if : ℕ → ℕ → ℕ → List ℕ → Bool → List ℕ
+bytes-if t scn number row x = cond x (lineHeader number (bodyBytes t scn row) ++ bodyBytes t scn row) (bodyBytes t scn row)
+
+pub line-back : (scn t p number : ℕ) (row rest : List ℕ) → scn ≤ 1 → length row ≡ p → ReadBack (codecOf t) row
+    → let all = lineBytes t scn number row ++ rest in
+    Back (stepOf scn t p all) (readingOf scn t p number all) row (length (lineBytes t scn number row))
+unfolding lineBytes bytes-if
 line-back scn t p number row rest h l b = go (eqb scn 1) refl
   where
     go : (x : Bool) → eqb scn 1 ≡ x
-        → Back (cond x (headedLine t p number (cond x (lineHeader number (bodyBytes t scn row) ++ bodyBytes t scn row) (bodyBytes t scn row) ++ rest))
-        (openLine t p (cond x (lineHeader number (bodyBytes t scn row) ++ bodyBytes t scn row) (bodyBytes t scn row) ++ rest))) row
-        (length (cond x (lineHeader number (bodyBytes t scn row) ++ bodyBytes t scn row) (bodyBytes t scn row)))
+        → let all = bytes-if t scn number row x ++ rest in
+        Back (cond x (headedStep all) (openStep t p all)) (cond x (headedReading t p number all) (openReading t p all)) row
+        (length (bytes-if t scn number row x))
     go true e = let s : scn ≡ 1 = eqb-true scn 1 e in rw (s, ← l) (headed t number row rest b)
     go false e =
         let n : scn ≡ 1 → ⊥ = eqb-false scn 1 e in

@@ -1,33 +1,22 @@
 -- The rows of a picture that is not rejected, and the body of each: it is read back.
 use Prim.Native.Nat.{ℕ, suc, _+_, _-_, _*_, _≤_, _<_}
 use mathlib.Core.Path.{_≡_, refl, _∙_, ap}
-use mathlib.Core.Bool.{Bool, true, false, cond, _||_}
-use mathlib.Core.Logic.{_⊎_, inl, inr}
+use mathlib.Core.Bool.{Bool, true, false, _||_}
 use mathlib.Core.List.{List, [], _∷_, _++_}
-use native.Mathlib.Nat.{suc-mul, mul-le-mul-right}
 use native.Mathlib.Omega.{arith}
 use lib.ListN.{length, take, drop, length-drop}
 use lib.Seq.{length-take-le, take-add}
-use lib.Dec.{eqb, ltb}
-use borrow.Author.Tests.{ltb-true, ltb-false}
-use Rattle.units.specs.Words.{words}
-use Rattle.decode_body.specs.Pixels.{bytePixels, wordPixels, runPixels, pairPixels}
-use Rattle.decode_body.specs.Statuses.{byteRules, wordRules, runRules, pairRules}
-use Rattle.decode_body.specs.Extents.{byteExtent, wordExtent, runExtent, pairExtent}
-use Rattle.encode_body.specs.Bodies.{byteBody, wordBody, runBody, pairBody}
-use Rattle.encode_body.specs.laws.RoundTripWords.{AllBelow}
-use Rattle.encode_body.specs.laws.RoundTrip.{ReadBack, bytes-read-back, words-read-back, runs-read-back, pairs-read-back}
-use Rattle.layout.specs.Scanline.{bodyRules, bodyPixels, bodyExtent}
-use Rattle.encode_raster.specs.Picture.{Picture, picturePixels, rowAt}
-use Rattle.encode_raster.specs.File.{bodyBytes}
-use Rattle.encode_raster.specs.Writing.{anyAbove, highest}
+use lib.Dec.{ltb}
+use borrow.Author.Tests.{ltb-false}
+use Rattle.units.specs.laws.Parts.{row-within}
+use Rattle.codec.specs.Table.{codecOf}
+use Rattle.codec.specs.laws.RoundTripWords.{AllBelow}
+use Rattle.codec.specs.laws.RoundTrip.{ReadBack, read-back}
+use Rattle.encode_header.specs.Picture.{Picture, picturePixels, rowAt}
+use Rattle.encode_raster.specs.Writing.{anyAbove}
 use Rattle.read_back.specs.laws.Given.{Given}
 
 -- numbers below n: parts of a list
-below-more : (m n : ℕ) (xs : List ℕ) → m ≤ n → AllBelow m xs → AllBelow n xs
-below-more m n [] h b = tt
-below-more m n (x ∷ xs) h b = let l : x < m = b .0 in (omega arith, below-more m n xs h (b .1))
-
 below-first : (n : ℕ) (xs ys : List ℕ) → AllBelow n (xs ++ ys) → AllBelow n xs
 below-first n [] ys b = tt
 below-first n (x ∷ xs) ys b = (b .0, below-first n xs ys (b .1))
@@ -59,51 +48,20 @@ none-above m (x ∷ xs) h =
     let l : x ≤ m = ltb-false m x (s .0) in
     (omega arith, none-above m xs (s .1))
 
--- a number below the next one is below this one, or is this one
-pub below-next : (j k : ℕ) → j < suc k → (j < k) ⊎ (j ≡ k)
-below-next j k h = go (ltb j k) refl
-  where
-    go : (t : Bool) → ltb j k ≡ t → (j < k) ⊎ (j ≡ k)
-    go true e = inl (ltb-true j k e)
-    go false e = inr (omega (arith, ltb-false j k e))
-
--- a body of any data type is read back, if no pixel is above its highest
-by-type : (row : List ℕ) → 0 < length row → (x y z : Bool) → AllBelow (suc (cond z 1 (cond x 255 65535))) row
-    → ReadBack
-    (λ (b : List ℕ) (p : ℕ). cond x (byteRules b p) (cond y (wordRules b p) (cond z (runRules b p) (pairRules b p))))
-    (λ (b : List ℕ) (p : ℕ). cond x (bytePixels b p) (cond y (wordPixels b p) (cond z (runPixels 0 (words b)) (pairPixels (words b)))))
-    (λ (b : List ℕ) (p : ℕ). cond x (byteExtent b p) (cond y (wordExtent b p) (cond z (runExtent b p) (pairExtent b p))))
-    (cond x (byteBody 1 row) (cond y (wordBody row) (cond z (runBody row) (pairBody row))))
-    (cond x (byteBody 0 row) (cond y (wordBody row) (cond z (runBody row) (pairBody row))))
-    row
-by-type row l true y true b = bytes-read-back row (below-more 2 256 row (omega arith) b)
-by-type row l true y false b = bytes-read-back row b
-by-type row l false true true b = words-read-back row (below-more 2 65536 row (omega arith) b)
-by-type row l false true false b = words-read-back row b
-by-type row l false false true b = runs-read-back row b
-by-type row l false false false b = pairs-read-back row b l
-
-read-back : (t : ℕ) (row : List ℕ) → 0 < length row → AllBelow (suc (highest t)) row
-    → ReadBack (bodyRules t) (bodyPixels t) (bodyExtent t) (bodyBytes t 1 row) (bodyBytes t 0 row) row
-unfolding bodyRules bodyPixels bodyExtent bodyBytes
-read-back t row l b = by-type row l (eqb t 2) (eqb t 3) (eqb t 9) b
-
 -- row k of a picture
 pub record RowFacts (i : Picture) (k : ℕ) : Type 0 where
   pub full : length (rowAt i k) ≡ i .ppl
-  pub back : ReadBack (bodyRules (i .dtc)) (bodyPixels (i .dtc)) (bodyExtent (i .dtc)) (bodyBytes (i .dtc) 1 (rowAt i k))
-      (bodyBytes (i .dtc) 0 (rowAt i k)) (rowAt i k)
+  pub back : ReadBack (codecOf (i .dtc)) (rowAt i k)
 
 pub row-facts : (i : Picture) → Given i → (k : ℕ) → k < i .nol → RowFacts i k
 row-facts i g k h =
-    let m : suc k * i .ppl ≤ i .nol * i .ppl = mul-le-mul-right (i .ppl) h in
-    let s : suc k * i .ppl ≡ k * i .ppl + i .ppl = suc-mul k (i .ppl) in
-    let n : i .ppl ≤ length (drop (k * i .ppl) (i .pixels)) = omega (arith, g .enough, length-drop (k * i .ppl) (i .pixels)) in
-    let l : length (rowAt i k) ≡ i .ppl = length-take-le (i .ppl) (drop (k * i .ppl) (i .pixels)) n in
+    let n = row-within k (i .nol) (i .ppl) (length (i .pixels)) h (g .enough) in
+    let m = row-within k (i .nol) (i .ppl) (i .nol * i .ppl) h (omega arith) in
+    let l : length (rowAt i k) ≡ i .ppl = length-take-le (i .ppl) (drop (k * i .ppl) (i .pixels)) (omega (arith, length-drop (k * i .ppl) (i .pixels))) in
     record {
       full = l;
       back =
-          read-back (i .dtc) (rowAt i k) (omega (arith, g .pplLow))
-          (below-part (suc (highest (i .dtc))) (k * i .ppl) (i .ppl) (i .nol * i .ppl) (i .pixels) (omega arith)
-          (none-above (highest (i .dtc)) (picturePixels i) (g .within)));
+          read-back (i .dtc) (rowAt i k) (g .limits .known) (omega (arith, g .limits .ppl-least))
+          (below-part (suc (codecOf (i .dtc) .highest)) (k * i .ppl) (i .ppl) (i .nol * i .ppl) (i .pixels) m
+          (none-above (codecOf (i .dtc) .highest) (picturePixels i) (g .within-highest)));
     }

@@ -7,15 +7,9 @@ use borrow.Author.Needs.{needs}
 use Rattle.round_trip.specs.Call.{BothCalls}
 use Rattle.round_trip.specs.laws.Call.{number-is, size-fits, length-after, given-back}
 use Rattle.encode_raster.specs.Answer.{picture}
-use Rattle.encode_raster.specs.Picture.{Picture}
+use Rattle.encode_header.specs.Picture.{Picture}
 use Rattle.round_trip.proofs.write_and_read.Statement.{statement}
 use Rattle.round_trip.proofs.write_and_read.Tie as tie
-
-write-raster-requires : tie.Need-write-raster-requires
-write-raster-requires c κs = search needs
-
-same-length : tie.Need-same-length
-same-length c = search needs
 
 returns : tie.Need-returns
 returns c =
@@ -43,20 +37,8 @@ slice-aggregate-read-raster c =
     let a = c .before .before .before .before .before .before .before .before .before .before .before .before .args in
     let w = c .before .before .before .before .before .write-raster in
     let l : length (w .last .1 .1 .1 .1 .1 .1 .1 .1 .0) ≡ length (a .out .now) = ap length (w .ensures .1) ∙ length-after (picture (a .dtc) (a .ppl) (a .nol) (a .slo) (a .scn) (a .drs) (a .table .now) (a .pixels .now)) (a .out .now) in
-    let s : w .result .size ≤ length (w .last .1 .1 .1 .1 .1 .1 .1 .1 .0) = omega (arith, size-fits (picture (a .dtc) (a .ppl) (a .nol) (a .slo) (a .scn) (a .drs) (a .table .now) (a .pixels .now)) (a .out .now) (w .result) (w .ensures .0) (c .before .if1 .left), l) in
-    sym (length-take-le (w .result .size) (w .last .1 .1 .1 .1 .1 .1 .1 .1 .0) s)
-
-read-raster-requires : tie.Need-read-raster-requires
-read-raster-requires c κs = search needs
-
-same-length-2 : tie.Need-same-length-2
-same-length-2 c = search needs
-
-same-length-3 : tie.Need-same-length-3
-same-length-3 c = search needs
-
-same-length-4 : tie.Need-same-length-4
-same-length-4 c = search needs
+    let s : w .result .size .0 ≤ length (w .last .1 .1 .1 .1 .1 .1 .1 .1 .0) = omega (arith, size-fits (picture (a .dtc) (a .ppl) (a .nol) (a .slo) (a .scn) (a .drs) (a .table .now) (a .pixels .now)) (a .out .now) (w .result) (w .ensures .0) (c .before .if1 .left), l) in
+    sym (length-take-le (w .result .size .0) (w .last .1 .1 .1 .1 .1 .1 .1 .1 .0) s)
 
 returns-2 : tie.Need-returns-2
 returns-2 c =
@@ -78,13 +60,13 @@ pub write-and-read-spec : {M : Type 1} → statement M
 write-and-read-spec =
     tie.close
     (tie.spec
-    write-raster-requires
-    same-length
+    (λ c κs. search needs)
+    (λ c. search needs)
     returns
     slice-reshare-prefix-read-raster
     slice-aggregate-read-raster
-    read-raster-requires
-    same-length-2
-    same-length-3
-    same-length-4
+    (λ c κs. search needs)
+    (λ c. search needs)
+    (λ c. search needs)
+    (λ c. search needs)
     returns-2)

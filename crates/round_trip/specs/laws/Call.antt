@@ -1,4 +1,4 @@
--- Laws of Call.
+-- Reading back, of the two calls, from their promises.
 use Prim.Native.Nat.{ℕ, _*_, _≤_, _<_}
 use mathlib.Core.Path.{_≡_, refl, sym, _∙_, ap}
 use mathlib.Core.Bool.{Bool, true, false, cond}
@@ -13,7 +13,7 @@ use Rattle.header.specs.Reading.{headerReading}
 use Rattle.color.specs.Color.{colorReading}
 use Rattle.layout.specs.Reading.{rasterReading, pixelsAfter, marksAfter}
 use Rattle.encode_raster.specs.declared.WriteAnswer.{WriteAnswer}
-use Rattle.encode_raster.specs.Picture.{Picture}
+use Rattle.encode_header.specs.Picture.{Picture}
 use Rattle.encode_raster.specs.File.{fileBytes}
 use Rattle.encode_raster.specs.Writing.{WriteNumbers, givenRules, pictureRules, writerRejection, writing, outAfter}
 use Rattle.encode_raster.specs.Answer.{writeNumbers}
@@ -57,10 +57,10 @@ number-of i room = number-by i (writerRejection i room) (eqb (writerRejection i 
 pub number-is : (i : Picture) (room : ℕ) (w : WriteAnswer) → writeNumbers w ≡ writing i room → w .number ≡ writerRejection i room
 number-is i room w e = ap (λ (x : WriteNumbers). x .number) e ∙ number-of i room
 
-pub size-fits : (i : Picture) (out : List ℕ) (w : WriteAnswer) → writeNumbers w ≡ writing i (length out) → w .number ≡ 0 → w .size ≤ length out
+pub size-fits : (i : Picture) (out : List ℕ) (w : WriteAnswer) → writeNumbers w ≡ writing i (length out) → w .number ≡ 0 → w .size .0 ≤ length out
 size-fits i out w e z =
     let ok : writerRejection i (length out) ≡ 0 = sym (number-is i (length out) w e) ∙ z in
-    let s : w .size ≡ length (fileBytes i) = ap (λ (x : WriteNumbers). x .size) (e ∙ writes i out ok) in
+    let s : w .size .0 ≡ length (fileBytes i) = ap (λ (x : WriteNumbers). x .size) (e ∙ writes i out ok) in
     rw s (fits i (length out) ok)
 
 unwritten : (i : Picture) (out : List ℕ) → eqb (writerRejection i (length out)) 0 ≡ false → outAfter i out ≡ out
@@ -89,10 +89,10 @@ pub given-back : (i : Picture) (out back marks : List ℕ) (r : RoundTrip) (out�
 given-back i out back marks r out′ back′ marks′ drs c ok px mk =
     let w = c .wrote ∙ writes i out ok in
     let z : r .written .number ≡ 0 = ap (λ (x : WriteNumbers). x .number) w in
-    let s : r .written .size ≡ length (fileBytes i) = ap (λ (x : WriteNumbers). x .size) w in
-    let f : written r out′ ≡ fileBytes i = begins i out ok (r .written .size) out′ s (c .out-is) in
+    let s : r .written .size .0 ≡ length (fileBytes i) = ap (λ (x : WriteNumbers). x .size) w in
+    let f : written r out′ ≡ fileBytes i = begins i out ok (r .written .size .0) out′ s (c .out-is) in
     let d = c .read-is z in
-    let b : ReadsBack i back marks = reads-back i (length out) back marks (record { drs = drs }) ok px mk in
+    let b : ReadsBack i back marks = reads-back i (length out) back marks drs ok px mk in
     record {
       wrote = z;
       answer = d .0 ∙ ap (λ (x : List ℕ). rasterReading x back marks) f ∙ b .answer ∙ ap (λ (n : ℕ). given i n) (sym s);

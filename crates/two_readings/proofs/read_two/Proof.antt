@@ -4,24 +4,6 @@ use Rattle.two_readings.specs.laws.Call.{two-calls}
 use Rattle.two_readings.proofs.read_two.Statement.{statement}
 use Rattle.two_readings.proofs.read_two.Tie as tie
 
-read-raster-requires : tie.Need-read-raster-requires
-read-raster-requires c κs = search needs
-
-read-raster-requires-2 : tie.Need-read-raster-requires-2
-read-raster-requires-2 c κs = search needs
-
-same-length : tie.Need-same-length
-same-length c = search needs
-
-same-length-2 : tie.Need-same-length-2
-same-length-2 c = search needs
-
-same-length-3 : tie.Need-same-length-3
-same-length-3 c = search needs
-
-same-length-4 : tie.Need-same-length-4
-same-length-4 c = search needs
-
 returns : tie.Need-returns
 returns c =
     let s = c .before .before .before .before .before .before .before .before .before .before .before .before .before .before .before .before .before .before .before .before .args in
@@ -42,10 +24,10 @@ pub read-two-spec : {M : Type 1} → statement M
 read-two-spec =
     tie.close
     (tie.spec
-    read-raster-requires
-    read-raster-requires-2
-    same-length
-    same-length-2
-    same-length-3
-    same-length-4
+    (λ c κs. search needs)
+    (λ c κs. search needs)
+    (λ c. search needs)
+    (λ c. search needs)
+    (λ c. search needs)
+    (λ c. search needs)
     returns)

@@ -1,9 +1,9 @@
--- Laws of Call.
+-- Demand 3 of two calls, from their promises.
 use Prim.Native.Nat.{ℕ}
 use mathlib.Core.Path.{_≡_}
 use mathlib.Core.List.{List}
 use lib.ListN.{length}
-use Rattle.layout.specs.Chain.{scnOf}
+use Rattle.layout.specs.Chain.{sheetOf}
 use Rattle.layout.specs.Reading.{rasterRejection}
 use Rattle.decode_raster.specs.declared.RasterAnswer.{RasterAnswer}
 use Rattle.decode_raster.specs.Answer.{rasterNumbers}
@@ -15,7 +15,7 @@ pub two-calls : (f pixels₁ marks₁ : List ℕ) (r₁ : RasterAnswer) (pixels�
     (g pixels₂ marks₂ : List ℕ) (r₂ : RasterAnswer) (pixels₂′ marks₂′ : List ℕ)
     → ReadingOf f pixels₁ marks₁ r₁ pixels₁′ marks₁′
     → ReadingOf g pixels₂ marks₂ r₂ pixels₂′ marks₂′
-    → scnOf f ≡ 1
+    → sheetOf f .scn ≡ 1
     → rasterRejection f (length pixels₁) (length marks₁) ≡ 0
     → ChangedInBodies f g
     → Isolated f g (length pixels₂) (length marks₂) (rasterNumbers r₁) pixels₁′ marks₁′ (rasterNumbers r₂) pixels₂′ marks₂′

@@ -1,4 +1,4 @@
--- Laws of Rules.
+-- Tables of rules: none holds, and two tables one after the other.
 use Prim.Native.Nat.{ℕ, _<_}
 use mathlib.Core.Path.{_≡_, refl, sym, _∙_}
 use mathlib.Core.Bool.{Bool, true, false, cond, _&&_}
@@ -58,3 +58,18 @@ both-none a b n h = go (eqb (first a) 0) refl
     go : (s : Bool) → eqb (first a) 0 ≡ s → (first a ≡ 0) × (first b ≡ 0)
     go true e = let z : first a ≡ 0 = eqb-true (first a) 0 e in (z, sym (first-later a b n z) ∙ h)
     go false e = let s : first a ≡ 0 → ⊥ = eqb-false (first a) 0 e in absurd (s (sym (first-here a b s) ∙ h))
+
+-- the number of a table in two parts, by the number of each
+module _ (a b : List Rule) {n : ℕ} (number : n ≡ first a) where
+  pub by-first : (n ≡ 0 → ⊥) → n ≡ first (a ++ b)
+  by-first some = number ∙ sym (first-here a b (λ z. some (number ∙ z)))
+
+  pub by-second : T (numbered a) → n ≡ 0 → {m : ℕ} → m ≡ first b → m ≡ first (a ++ b)
+  by-second t none rest = rest ∙ sym (first-later a b t (sym number ∙ none))
+
+  pub by-either : T (numbered a) → {m r : ℕ} → m ≡ first b → r ≡ cond (eqb n 0) m n → r ≡ first (a ++ b)
+  by-either t {m} rest e = e ∙ go (eqb n 0) refl
+    where
+      go : (s : Bool) → eqb n 0 ≡ s → cond s m n ≡ first (a ++ b)
+      go true z = by-second t (eqb-true n 0 z) rest
+      go false z = by-first (eqb-false n 0 z)

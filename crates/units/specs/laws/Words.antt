@@ -1,15 +1,16 @@
--- Laws of Words.
-use Prim.Native.Nat.{ℕ, zero, suc, _+_, _/_, _≤_, _<_}
-use mathlib.Core.Path.{_≡_, refl}
-use mathlib.Core.List.{List, [], _∷_}
+-- Words of bytes: how many there are, one by one, by their index, and in the first bytes.
+use Prim.Native.Nat.{ℕ, zero, suc, _+_, _*_, _/_, _%_, _≤_, _<_}
+use mathlib.Core.Path.{_≡_, refl, ap, ap₂, _∙_}
+use mathlib.Core.List.{List, [], _∷_, _++_, append-nil}
 use native.Mathlib.Numerals.{add-one, add-two}
 use native.Mathlib.Omega.{arith}
-use lib.ListN.{length, drop}
-use lib.Seq.{drop-cons}
+use lib.ListN.{length, getD, take, drop}
+use lib.Seq.{drop-cons, take-take}
 use Rattle.units.specs.LittleEndian.{u16At}
-use Rattle.units.specs.Words.{words, wordCount}
+use Rattle.units.specs.Counts.{wordBytes}
+use Rattle.units.specs.Words.{words, wordsToBytes, wordCount}
 
-pub length-words : (s : List ℕ) → length (words s) ≡ wordCount s
+pub length-words : (s : List ℕ) → length (words s) ≡ wordCount s .0
 unfolding words
 length-words [] = refl
 length-words (a ∷ []) = refl
@@ -30,3 +31,37 @@ words-step s i h =
     let h₁ : i < length s = omega arith in
     let h₂ : suc i < length s = omega arith in
     rw (add-two i, add-one i, drop-cons s i 0 h₁, drop-cons s (suc i) 0 h₂)
+
+two-suc : (i : ℕ) → 2 * suc i ≡ suc (suc (2 * i))
+two-suc i = omega arith
+
+-- a word by its index
+pub word-at : (b : List ℕ) (i : ℕ) → i < wordCount b .0 → getD (words b) i 0 ≡ u16At b (2 * i)
+unfolding words u16At
+word-at [] i h = absurd (omega arith)
+word-at (x ∷ []) i h = absurd (let n : length (x ∷ []) ≡ 1 = refl in omega arith)
+word-at (x ∷ (y ∷ b)) zero h = refl
+word-at (x ∷ (y ∷ b)) (suc i) h = word-at b i (omega arith) ∙ rw (two-suc i, add-one, add-one)
+
+-- n words are in the first bytes that they take
+pub words-take : (b : List ℕ) (n : ℕ) → words (take (wordBytes n) b) ≡ take n (words b)
+unfolding words
+words-take b zero = refl
+words-take [] (suc n) = rw (two-suc n)
+words-take (x ∷ []) (suc n) = rw (two-suc n)
+words-take (x ∷ (y ∷ b)) (suc n) = rw (two-suc n) (ap (λ (ws : List ℕ). (x + 256 * y) ∷ ws) (words-take b n))
+
+pub words-taken : (b : List ℕ) (n : ℕ) → take n (words (take (wordBytes n) b)) ≡ take n (words b)
+words-taken b n = rw (words-take b n) (take-take n n (words b) (omega arith))
+
+-- words written as bytes come back, also where bytes follow them
+pub words-before : (ws rest : List ℕ) → words (wordsToBytes ws ++ rest) ≡ ws ++ words rest
+unfolding words wordsToBytes
+words-before [] rest = refl
+words-before (w ∷ ws) rest =
+    let e : w % 256 + 256 * (w / 256) ≡ w = omega arith in
+    ap₂ (λ (x : ℕ) (r : List ℕ). x ∷ r) e (words-before ws rest)
+
+pub words-back : (ws : List ℕ) → words (wordsToBytes ws) ≡ ws
+unfolding words
+words-back ws = rw (append-nil (wordsToBytes ws)) at (words-before ws [] ∙ append-nil ws)

@@ -1,37 +1,32 @@
-use borrow.Author.Tests.{eq-eqb, ne-eqb}
+use borrow.Author.Tests.{ne-eqb}
+use lib.ListN.{length}
+use mathlib.Core.Path.{sym, _∙_}
+use Rattle.units.specs.laws.Over.{over-full}
+use Rattle.decode_body.specs.laws.Fit.{bytes-fit}
 use borrow.Author.Needs.{needs}
 use Rattle.decode_body.proofs.byte_pixels.read_bytes.Statement.{statement}
 use Rattle.decode_body.proofs.byte_pixels.read_bytes.Tie as tie
 
-add-if1 : tie.Need-add-if1
-add-if1 c = search needs
-
-fill-requires : tie.Need-fill-requires
-fill-requires c κs = search needs
-
-same-length : tie.Need-same-length
-same-length c = search needs
-
 returns : tie.Need-returns
-returns c = (simp (ne-eqb _ _ (c .before .before .before .before .if1 .taken)), c .before .before .fill .ensures)
-
-copy-bytes-requires : tie.Need-copy-bytes-requires
-copy-bytes-requires c κs = search needs
-
-same-length-2 : tie.Need-same-length-2
-same-length-2 c = search needs
+returns c =
+    let d = c .before .before .before .before in
+    (d .before .bytes-status .ensures, rw (ne-eqb (d .before .bytes-status .result) 0 (d .if1 .taken)) (c .before .before .fill .ensures))
 
 returns-2 : tie.Need-returns-2
-returns-2 c = (simp (eq-eqb _ _ (c .before .before .before .before .if1 .left)), c .before .before .copy-bytes .ensures)
+returns-2 c =
+    let s = c .before .before .before .before .before in
+    let a = s .before .before .before .args in
+    let z = sym (s .bytes-status .ensures) ∙ c .before .before .before .before .if1 .left in
+    (sym z, c .before .before .widen .ensures ∙ over-full (a .body .now) (a .row .now) (bytes-fit (a .body .now) (length (a .row .now)) z))
 
 pub read-bytes-spec : {M : Type 1} → statement M
 read-bytes-spec =
     tie.close
     (tie.spec
-    add-if1
-    fill-requires
-    same-length
+    (λ c κs. search needs)
+    (λ c κs. search needs)
+    (λ c. search needs)
     returns
-    copy-bytes-requires
-    same-length-2
+    (λ c κs. search needs)
+    (λ c. search needs)
     returns-2)

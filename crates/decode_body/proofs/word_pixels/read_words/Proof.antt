@@ -1,38 +1,33 @@
-use borrow.Author.Tests.{eq-eqb, ne-eqb}
+use borrow.Author.Tests.{ne-eqb}
+use lib.ListN.{length}
 use mathlib.Core.Path.{sym, _∙_}
+use Rattle.units.specs.Words.{words}
+use Rattle.units.specs.laws.Over.{over-full}
+use Rattle.decode_body.specs.laws.Fit.{words-fit}
 use borrow.Author.Needs.{needs}
 use Rattle.decode_body.proofs.word_pixels.read_words.Statement.{statement}
 use Rattle.decode_body.proofs.word_pixels.read_words.Tie as tie
 
-word-count-requires : tie.Need-word-count-requires
-word-count-requires c κs = search needs
-
-fill-requires : tie.Need-fill-requires
-fill-requires c κs = search needs
-
-same-length : tie.Need-same-length
-same-length c = search needs
-
 returns : tie.Need-returns
-returns c = (simp (ne-eqb _ _ (λ q. c .before .before .before .before .if1 .taken (c .before .before .before .before .before .word-count .ensures ∙ q))), c .before .before .fill .ensures)
-
-copy-words-requires : tie.Need-copy-words-requires
-copy-words-requires c κs = search needs
-
-same-length-2 : tie.Need-same-length-2
-same-length-2 c = search needs
+returns c =
+    let d = c .before .before .before .before in
+    (d .before .words-status .ensures, rw (ne-eqb (d .before .words-status .result) 0 (d .if1 .taken)) (c .before .before .fill .ensures))
 
 returns-2 : tie.Need-returns-2
-returns-2 c = (simp (eq-eqb _ _ (sym (c .before .before .before .before .before .word-count .ensures) ∙ c .before .before .before .before .if1 .left)), c .before .before .copy-words .ensures)
+returns-2 c =
+    let s = c .before .before .before .before .before in
+    let a = s .before .before .before .args in
+    let z = sym (s .words-status .ensures) ∙ c .before .before .before .before .if1 .left in
+    (sym z, c .before .before .load-words .ensures ∙ over-full (words (a .body .now)) (a .row .now) (words-fit (a .body .now) (length (a .row .now)) z))
 
 pub read-words-spec : {M : Type 1} → statement M
 read-words-spec =
     tie.close
     (tie.spec
-    word-count-requires
-    fill-requires
-    same-length
+    (λ c κs. search needs)
+    (λ c κs. search needs)
+    (λ c. search needs)
     returns
-    copy-words-requires
-    same-length-2
+    (λ c κs. search needs)
+    (λ c. search needs)
     returns-2)

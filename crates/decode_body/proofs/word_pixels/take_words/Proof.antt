@@ -1,54 +1,50 @@
-use Prim.Native.Nat.{ℕ}
+use Prim.Native.Nat.{_≤_}
 use borrow.Author.Tests.{lt-ltb, le-ltb}
-use lib.ListN.{length, take}
+use lib.ListN.{length}
 use mathlib.Core.Path.{_≡_, sym, _∙_, ap}
+use native.Mathlib.Omega.{arith}
+use Rattle.units.specs.Counts.{wordBytes}
+use Rattle.units.specs.Words.{words, wordCount}
+use Rattle.units.specs.laws.Words.{length-words, words-taken}
+use Rattle.units.specs.laws.Over.{over-full}
+use Rattle.codec.specs.Codec.{taken}
 use borrow.Author.Needs.{needs}
-use Rattle.units.specs.Words.{words, wordCount, wordBytes}
-use Rattle.decode_body.specs.laws.Copy.{words-taken}
 use Rattle.decode_body.proofs.word_pixels.take_words.Statement.{statement}
 use Rattle.decode_body.proofs.word_pixels.take_words.Tie as tie
 
-word-count-requires : tie.Need-word-count-requires
-word-count-requires c κs = search needs
-
-fill-requires : tie.Need-fill-requires
-fill-requires c κs = search needs
-
-same-length : tie.Need-same-length
-same-length c = search needs
-
 returns : tie.Need-returns
-returns c = (simp (lt-ltb _ _ (rw (c .before .before .before .before .before .word-count .ensures) at (c .before .before .before .before .if1 .taken))), c .before .before .fill .ensures)
-
-copy-words-requires : tie.Need-copy-words-requires
-copy-words-requires c κs = search needs
-
-word-start-requires : tie.Need-word-start-requires
-word-start-requires c κs = search needs
-
-same-length-2 : tie.Need-same-length-2
-same-length-2 c = search needs
+returns c =
+    let d = c .before .before .before .before .before in
+    let e = c .fault .ensures in
+    (e ∙ simp (lt-ltb _ _ (rw (d .before .before .word-count .ensures) at (d .if1 .taken))), rw e (c .before .before .before .fill .ensures))
 
 returns-2 : tie.Need-returns-2
 returns-2 c =
-    let a = c .before .before .before .before .before .before .before .before .before .args in
+    let d = c .before .before .before .before .before .before in
+    let a = d .before .before .before .before .before .args in
     let p = length (a .row .now) in
-    let n = le-ltb (wordCount (a .rest .now)) p (rw (c .before .before .before .before .before .before .word-count .ensures) at (c .before .before .before .before .before .if1 .left)) in
-    let e : c .word-start .result ≡ wordBytes p = c .word-start .ensures ∙ simp n in (
-      simp (n, e),
-      c .before .before .before .copy-words .ensures ∙ sym (words-taken (a .rest .now) p)
-          ∙ ap (λ (m : ℕ). take p (words (take m (a .rest .now)))) (sym e),
+    let h : p ≤ wordCount (a .rest .now) .0 = rw (d .before .before .word-count .ensures) at (d .if1 .left) in
+    let n = le-ltb (wordCount (a .rest .now) .0) p h in
+    let w : c .before .words-to-bytes .result .0 ≡ wordBytes p = omega arith in
+    let e = c .taken .ensures ∙ ap taken w in (
+      e ∙ simp n,
+      rw e
+          (c .before .before .before .before .load-words .ensures
+          ∙ over-full (words (a .rest .now)) (a .row .now) (omega (arith, length-words (a .rest .now)))
+          ∙ sym (words-taken (a .rest .now) p)),
     )
 
 pub take-words-spec : {M : Type 1} → statement M
 take-words-spec =
     tie.close
     (tie.spec
-    word-count-requires
-    fill-requires
-    same-length
+    (λ c κs. search needs)
+    (λ c κs. search needs)
+    (λ c κs. search needs)
+    (λ c. search needs)
     returns
-    copy-words-requires
-    word-start-requires
-    same-length-2
+    (λ c κs. search needs)
+    (λ c κs. search needs)
+    (λ c κs. search needs)
+    (λ c. search needs)
     returns-2)

@@ -1,4 +1,4 @@
-use lib.ListN.{length, take, drop, replicate}
+use lib.ListN.{length, take, drop}
 use native.Mathlib.Omega.{arith}
 use mathlib.Core.Path.{refl, _≡_, sym, _∙_}
 use Prim.Native.Nat.{ℕ, _+_, _-_}
@@ -7,11 +7,14 @@ use mathlib.Core.List.{List}
 use mathlib.Core.Bool.{Bool, true, false, cond}
 use borrow.Author.Needs.{needs}
 use Rattle.layout.specs.laws.Line.{lostBy, NotLost, not-lost, is-lost, is-not-lost, head-word, status-lost, status-field, status-body, row-by-status}
-use Rattle.layout.specs.Scanline.{placementRules, bodyRules, headOf, bodyOf, following, reading, isLost, headedLine, bodyPixels}
+use Rattle.layout.specs.Scanline.{placementRules, headOf, bodyOf, following, reading, isLost, headedStep, headedReading}
+use Rattle.codec.specs.Table.{bodyRules, bodyPixels}
 use Rattle.units.specs.Rules.{first}
 use Rattle.decode_scanline.specs.Answer.{IsLine}
-use Rattle.decode_body.specs.Statuses.{rowOf}
-use Rattle.units.specs.Words.{wordBytes}
+use Rattle.codec.specs.Codec.{rowOf}
+use Rattle.units.specs.declared.Bytes.{Bytes}
+use Rattle.units.specs.Counts.{nBytes, bytesOfWords}
+use Rattle.units.specs.Over.{zeros}
 use Rattle.decode_scanline.proofs.headed.read_headed.Statement.{statement}
 use Rattle.decode_scanline.proofs.headed.read_headed.Tie as tie
 
@@ -19,9 +22,9 @@ use Rattle.decode_scanline.proofs.headed.read_headed.Tie as tie
 module _ (t p number : ℕ) (rest row : List ℕ) where
   line-is : {n : ℕ} → reading t p number (headOf rest) (bodyOf rest) .status ≡ n
       → {lost : Bool} → isLost rest ≡ lost
-      → {used : ℕ} → used ≡ cond lost 0 (4 + wordBytes (following (headOf rest)))
+      → {used : Bytes} → used .0 ≡ cond lost 0 (4 + bytesOfWords (following (headOf rest)) .0)
       → row ≡ rowOf n p (bodyPixels t (bodyOf rest) p)
-      → IsLine (headedLine t p number rest) (record { status = n; lost = lost; used = used }) row
+      → IsLine (headedStep rest) (headedReading t p number rest) (record { status = n; lost = lost; used = used }) row
   line-is s l u r = record {
     status = sym s;
     lost = sym l;
@@ -29,71 +32,50 @@ module _ (t p number : ℕ) (rest row : List ℕ) where
     row-is = r ∙ sym (row-by-status t p number (headOf rest) (bodyOf rest) s);
   }
 
-  zeros : {n : ℕ} → (n ≡ 0 → ⊥) → row ≡ replicate p 0 → row ≡ rowOf n p (bodyPixels t (bodyOf rest) p)
-  zeros {n} some z = rw (ne-eqb n 0 some) z
+  blank : {n : ℕ} → (n ≡ 0 → ⊥) → row ≡ zeros p → row ≡ rowOf n p (bodyPixels t (bodyOf rest) p)
+  blank {n} some z = rw (ne-eqb n 0 some) z
 
-  line-lost : {n : ℕ} → n ≡ lostBy rest → (n ≡ 0 → ⊥) → row ≡ replicate p 0
-      → IsLine (headedLine t p number rest) (record { status = n; lost = true; used = 0 }) row
+  line-lost : {n : ℕ} → n ≡ lostBy rest → (n ≡ 0 → ⊥) → row ≡ zeros p
+      → IsLine (headedStep rest) (headedReading t p number rest) (record { status = n; lost = true; used = nBytes 0 }) row
   line-lost by some z =
       let s : lostBy rest ≡ 0 → ⊥ = λ q. some (by ∙ q) in
-      line-is (status-lost t p number (headOf rest) (bodyOf rest) s ∙ sym by) (is-lost rest s) refl (zeros some z)
+      line-is (status-lost t p number (headOf rest) (bodyOf rest) s ∙ sym by) (is-lost rest s) refl (blank some z)
 
-  module _ (none : lostBy rest ≡ 0) {used : ℕ} (end : used ≡ 4 + wordBytes (following (headOf rest))) where
-    line-field : {n : ℕ} → n ≡ first (placementRules number (headOf rest)) → (n ≡ 0 → ⊥) → row ≡ replicate p 0
-        → IsLine (headedLine t p number rest) (record { status = n; lost = false; used = used }) row
+  module _ (none : lostBy rest ≡ 0) {used : Bytes} (end : used .0 ≡ 4 + bytesOfWords (following (headOf rest)) .0) where
+    line-field : {n : ℕ} → n ≡ first (placementRules number (headOf rest)) → (n ≡ 0 → ⊥) → row ≡ zeros p
+        → IsLine (headedStep rest) (headedReading t p number rest) (record { status = n; lost = false; used = used }) row
     line-field by some z =
-        line-is (status-field t p number (headOf rest) (bodyOf rest) none (λ q. some (by ∙ q)) ∙ sym by) (is-not-lost rest none) end (zeros some z)
+        line-is (status-field t p number (headOf rest) (bodyOf rest) none (λ q. some (by ∙ q)) ∙ sym by) (is-not-lost rest none) end (blank some z)
 
-    body-is : take (used - 8) (drop 8 rest) ≡ bodyOf rest
+    body-is : take (used .0 - 8) (drop 8 rest) ≡ bodyOf rest
     body-is = rw end (sym (not-lost rest none .body))
 
     line-body : {n : ℕ} → first (placementRules number (headOf rest)) ≡ 0
-        → n ≡ first (bodyRules t (take (used - 8) (drop 8 rest)) p)
-        → row ≡ rowOf n p (bodyPixels t (take (used - 8) (drop 8 rest)) p)
-        → IsLine (headedLine t p number rest) (record { status = n; lost = false; used = used }) row
+        → n ≡ first (bodyRules t (take (used .0 - 8) (drop 8 rest)) p)
+        → row ≡ rowOf n p (bodyPixels t (take (used .0 - 8) (drop 8 rest)) p)
+        → IsLine (headedStep rest) (headedReading t p number rest) (record { status = n; lost = false; used = used }) row
     line-body none₂ by r =
         line-is (status-body t p number (headOf rest) (bodyOf rest) none none₂ ∙ sym (rw body-is at by)) (is-not-lost rest none) end (rw body-is at r)
 
 -- What is known where the frame is right.
 frame-right : (c : tie.Else1) → lostBy (c .before .before .before .before .args .rest .now) ≡ 0
-frame-right c = sym (c .before .frame-status .ensures) ∙ c .if1 .left
+frame-right c = sym (c .before .lost-status .ensures) ∙ c .if1 .left
 
 header-right : (c : tie.Else1) → NotLost (c .before .before .before .before .args .rest .now)
 header-right c = not-lost (c .before .before .before .before .args .rest .now) (frame-right c)
 
-end-is : (c : tie.After-body-end)
-    → c .body-end .result ≡ 4 + wordBytes (following (headOf (c .before .before .before .before .before .before .args .rest .now)))
+end-is : (c : tie.After-size-by)
+    → c .size-by .result .0 ≡ 4 + bytesOfWords (following (headOf (c .before .before .before .before .before .before .args .rest .now))) .0
 end-is c = omega (arith, head-word (c .before .before .before .before .before .before .args .rest .now) 2 (omega arith))
-
-frame-status-requires : tie.Need-frame-status-requires
-frame-status-requires c κs = search needs
-
-fill-requires : tie.Need-fill-requires
-fill-requires c κs = search needs
-
-same-length : tie.Need-same-length
-same-length c = search needs
 
 returns : tie.Need-returns
 returns c =
     let d = c .before .before .before .before in
     let a = d .before .before .before .before .args in
-    line-lost (a .dtc) (length (a .row .now)) (a .number) (a .rest .now) _ (d .before .frame-status .ensures) (d .if1 .taken) (c .before .before .fill .ensures)
+    line-lost (a .dtc) (length (a .row .now)) (a .number) (a .rest .now) _ (d .before .lost-status .ensures) (d .if1 .taken) (c .before .before .fill .ensures)
 
-u16-at-requires : tie.Need-u16-at-requires
-u16-at-requires c κs = search needs
-
-body-end-requires : tie.Need-body-end-requires
-body-end-requires c κs = search needs
-
-field-status-requires : tie.Need-field-status-requires
-field-status-requires c κs = header-right (c .before .before) .whole
-
-fill-requires-2 : tie.Need-fill-requires-2
-fill-requires-2 c κs = search needs
-
-same-length-2 : tie.Need-same-length-2
-same-length-2 c = search needs
+placement-status-requires : tie.Need-placement-status-requires
+placement-status-requires c κs = header-right (c .before .before) .whole
 
 returns-2 : tie.Need-returns-2
 returns-2 c =
@@ -102,7 +84,7 @@ returns-2 c =
     let f = e .before .before in
     let a = f .before .before .before .before .args in
     line-field (a .dtc) (length (a .row .now)) (a .number) (a .rest .now) _ (frame-right f) (end-is e)
-    (d .before .field-status .ensures) (d .if2 .taken) (c .before .before .fill2 .ensures)
+    (d .before .placement-status .ensures) (d .if2 .taken) (c .before .before .fill2 .ensures)
 
 sub-read-body : tie.Need-sub-read-body
 sub-read-body c = omega (arith, end-is (c .before .before), header-right (c .before .before .before .before) .words)
@@ -113,12 +95,6 @@ part-read-body-start c = omega (arith, end-is (c .before .before), header-right 
 part-read-body-end : tie.Need-part-read-body-end
 part-read-body-end c = omega (arith, end-is (c .before .before), header-right (c .before .before .before .before) .within)
 
-read-body-requires : tie.Need-read-body-requires
-read-body-requires c κs = search needs
-
-same-length-3 : tie.Need-same-length-3
-same-length-3 c = search needs
-
 returns-3 : tie.Need-returns-3
 returns-3 c =
     let d = c .before .before .before .before .before in
@@ -127,25 +103,25 @@ returns-3 c =
     let a = f .before .before .before .before .args in
     let x = c .before .before .read-body .ensures in
     line-body (a .dtc) (length (a .row .now)) (a .number) (a .rest .now) _ (frame-right f) (end-is e)
-    (sym (d .before .field-status .ensures) ∙ d .if2 .left) (x .0) (x .1)
+    (sym (d .before .placement-status .ensures) ∙ d .if2 .left) (x .0) (x .1)
 
 pub read-headed-spec : {M : Type 1} → statement M
 read-headed-spec =
     tie.close
     (tie.spec
-    frame-status-requires
-    fill-requires
-    same-length
+    (λ c κs. search needs)
+    (λ c κs. search needs)
+    (λ c. search needs)
     returns
-    u16-at-requires
-    body-end-requires
-    field-status-requires
-    fill-requires-2
-    same-length-2
+    (λ c κs. search needs)
+    (λ c κs. search needs)
+    placement-status-requires
+    (λ c κs. search needs)
+    (λ c. search needs)
     returns-2
     sub-read-body
     part-read-body-start
     part-read-body-end
-    read-body-requires
-    same-length-3
+    (λ c κs. search needs)
+    (λ c. search needs)
     returns-3)

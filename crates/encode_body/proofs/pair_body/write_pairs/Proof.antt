@@ -3,13 +3,12 @@ use lib.ListN.{length, drop, getD, length-append}
 use native.Mathlib.Omega.{arith}
 use Prim.Native.Nat.{_-_, _+_, _*_, _≤_, zero-le}
 use mathlib.Core.Path.{_≡_, refl, ap}
-use Rattle.encode_body.specs.laws.Pairs.{next-pair, no-pair, length-pairWords}
-use Rattle.encode_body.specs.laws.Words.{length-bytes}
-use Rattle.encode_body.specs.laws.Leading.{leading-within}
-use Rattle.encode_body.specs.Bodies.{pairBody}
-use Rattle.encode_body.specs.Runs.{valuePieces, pairWords}
+use Rattle.codec.specs.laws.PairWriting.{next-pair, no-pair, length-pairWords}
+use Rattle.units.specs.laws.Stores.{length-bytes}
+use Rattle.codec.specs.laws.Leading.{leading-within}
+use Rattle.codec.specs.PairPixels.{pairBody, valuePieces, pairWords}
 use Rattle.encode_body.specs.laws.Left.{Left, left-start, left-more, left-none}
-use Rattle.encode_body.specs.Over.{over}
+use Rattle.units.specs.Over.{over}
 use Rattle.encode_body.proofs.pair_body.write_pairs.Statement.{statement}
 use Rattle.encode_body.proofs.pair_body.write_pairs.Tie as tie
 
@@ -27,21 +26,6 @@ loop-holds c =
     let a = c .before .before .args in
     (zero-le, refl, left-start (a .out .now) (pairWords (a .row .now)))
 
-mul-v : tie.Need-mul-v Inv-loop μ-loop
-mul-v c = search needs
-
-shared-slice-read-v : tie.Need-shared-slice-read-v Inv-loop μ-loop
-shared-slice-read-v c = search needs
-
-add-run-end : tie.Need-add-run-end Inv-loop μ-loop
-add-run-end c = search needs
-
-run-end-requires : tie.Need-run-end-requires Inv-loop μ-loop
-run-end-requires c κs = search needs
-
-sub-put-pairs : tie.Need-sub-put-pairs Inv-loop μ-loop
-sub-put-pairs c = search needs
-
 put-pairs-requires : tie.Need-put-pairs-requires Inv-loop μ-loop
 put-pairs-requires c κs =
     let t = c .before .before .before in
@@ -51,9 +35,6 @@ put-pairs-requires c κs =
     let n = next-pair r (l .i) e (t .loop-test .taken) (c .before .run-end .ensures) in
     let k = length-append (valuePieces (getD r (l .i) 0) (e - l .i) (e - l .i)) (pairWords (drop e r)) in
     omega (arith, ap length n, k, l .inv .2 .ends, length-pairWords r)
-
-loop-less : tie.Need-loop-less Inv-loop μ-loop
-loop-less c = search needs
 
 loop-again : tie.Need-loop-again Inv-loop μ-loop
 loop-again c =
@@ -67,11 +48,8 @@ loop-again c =
     let n = next-pair r (l .i) e (t .loop-test .taken) (u .run-end .ensures) in (
       omega (arith, leading-within r (l .i + 1) v (omega arith)),
       omega arith,
-      left-more (p .last .0) (p .result) (valuePieces v (e - l .i) (e - l .i)) (pairWords (drop e r)) n (l .inv .2) (p .ensures .0) (p .ensures .1),
+      left-more (valuePieces v (e - l .i) (e - l .i)) (pairWords (drop e r)) n (l .inv .2) (p .ensures),
     )
-
-same-length : tie.Need-same-length Inv-loop μ-loop
-same-length c = search needs
 
 returns : tie.Need-returns Inv-loop μ-loop
 returns c =
@@ -87,13 +65,13 @@ write-pairs-spec =
     Inv-loop
     μ-loop
     loop-holds
-    mul-v
-    shared-slice-read-v
-    add-run-end
-    run-end-requires
-    sub-put-pairs
+    (λ c. search needs)
+    (λ c. search needs)
+    (λ c. search needs)
+    (λ c κs. search needs)
+    (λ c. search needs)
     put-pairs-requires
-    loop-less
+    (λ c. search needs)
     loop-again
-    same-length
+    (λ c. search needs)
     returns)

@@ -18,23 +18,8 @@ loop-holds : tie.Need-loop-holds Inv-loop μ-loop
 unfolding sharesSlot
 loop-holds c = refl
 
-slot-at-requires : tie.Need-slot-at-requires Inv-loop μ-loop
-slot-at-requires c κs = search needs
-
-add-slot-occurs : tie.Need-add-slot-occurs Inv-loop μ-loop
-add-slot-occurs c = search needs
-
-slot-occurs-requires : tie.Need-slot-occurs-requires Inv-loop μ-loop
-slot-occurs-requires c κs = search needs
-
 returns : tie.Need-returns Inv-loop μ-loop
 returns c = sym (c .before .before .before .before .loop .inv ∙ scan-hit (λ (j : ℕ). slotOccurs (c .before .before .before .before .before .before .args .file .now) (slotAt (c .before .before .before .before .before .before .args .file .now) j) (j + 1) (c .before .before .before .before .before .before .args .cte)) (λ (j : ℕ). true) false (c .before .before .before .before .loop .i) (c .before .before .before .before .before .before .args .cte) (c .before .before .before .loop-test .taken) (sym (c .before .slot-occurs .ensures ∙ ap (λ (s : ℕ). slotOccurs (c .before .before .before .before .before .before .args .file .now) s (c .before .before .before .before .loop .i + 1) (c .before .before .before .before .before .before .args .cte)) (c .before .before .slot-at .ensures)) ∙ c .if1 .taken))
-
-add-i : tie.Need-add-i Inv-loop μ-loop
-add-i c = search needs
-
-loop-less : tie.Need-loop-less Inv-loop μ-loop
-loop-less c = search needs
 
 loop-again : tie.Need-loop-again Inv-loop μ-loop
 loop-again c = c .before .before .before .before .loop .inv ∙ scan-miss (λ (j : ℕ). slotOccurs (c .before .before .before .before .before .before .args .file .now) (slotAt (c .before .before .before .before .before .before .args .file .now) j) (j + 1) (c .before .before .before .before .before .before .args .cte)) (λ (j : ℕ). true) false (c .before .before .before .before .loop .i) (c .before .before .before .before .before .before .args .cte) (c .before .before .before .loop-test .taken) (sym (c .before .slot-occurs .ensures ∙ ap (λ (s : ℕ). slotOccurs (c .before .before .before .before .before .before .args .file .now) s (c .before .before .before .before .loop .i + 1) (c .before .before .before .before .before .before .args .cte)) (c .before .before .slot-at .ensures)) ∙ c .if1 .left)
@@ -49,11 +34,11 @@ shares-slot-spec =
     Inv-loop
     μ-loop
     loop-holds
-    slot-at-requires
-    add-slot-occurs
-    slot-occurs-requires
+    (λ c κs. search needs)
+    (λ c. search needs)
+    (λ c κs. search needs)
     returns
-    add-i
-    loop-less
+    (λ c. search needs)
+    (λ c. search needs)
     loop-again
     returns-2)

@@ -18,18 +18,9 @@ abbrev μ-loop : tie.MeasureT-loop
 loop-holds : tie.Need-loop-holds Inv-loop μ-loop
 loop-holds c = refl
 
-slot-at-requires : tie.Need-slot-at-requires Inv-loop μ-loop
-slot-at-requires c κs = search needs
-
 returns : tie.Need-returns Inv-loop μ-loop
 unfolding slotOccurs
 returns c = sym (scan-hit (λ (j : ℕ). eqb (slotAt (c .before .before .before .before .before .args .file .now) j) (c .before .before .before .before .before .args .slot)) (λ (j : ℕ). true) false (c .before .before .before .loop .i) (c .before .before .before .before .before .args .cte) (c .before .before .loop-test .taken) (eq-eqb _ _ (sym (c .before .slot-at .ensures) ∙ c .if1 .taken))) ∙ c .before .before .before .loop .inv
-
-add-i : tie.Need-add-i Inv-loop μ-loop
-add-i c = search needs
-
-loop-less : tie.Need-loop-less Inv-loop μ-loop
-loop-less c = search needs
 
 loop-again : tie.Need-loop-again Inv-loop μ-loop
 unfolding slotOccurs
@@ -46,9 +37,9 @@ slot-occurs-spec =
     Inv-loop
     μ-loop
     loop-holds
-    slot-at-requires
+    (λ c κs. search needs)
     returns
-    add-i
-    loop-less
+    (λ c. search needs)
+    (λ c. search needs)
     loop-again
     returns-2)

@@ -1,0 +1,12 @@
+pub mod Lawful
+pub mod Leading
+pub mod PairReading
+pub mod PairWriting
+pub mod Pieces
+pub mod RoundTrip
+pub mod RoundTripPairs
+pub mod RoundTripRuns
+pub mod RoundTripWords
+pub mod RunReading
+pub mod RunWriting
+pub mod Table

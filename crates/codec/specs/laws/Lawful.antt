@@ -1,0 +1,133 @@
+-- What the reading of a scanline needs of a codec, and that every codec has it.
+use Prim.Native.Nat.{ℕ, _+_, _-_, _%_, _≤_}
+use mathlib.Core.Path.{_≡_, refl, sym, _∙_, ap}
+use mathlib.Core.Bool.{Bool, true, false, cond, _&&_, false≢true}
+use mathlib.Core.List.{List, [], _∷_}
+use native.Mathlib.Omega.{arith}
+use lib.ListN.{length, take}
+use lib.Seq.{length-take-le}
+use lib.Dec.{eqb, ltb}
+use borrow.Author.Tests.{ltb-false, eqb-true, not-false}
+use Rattle.units.specs.Counts.{wordBytes}
+use Rattle.units.specs.Rules.{first}
+use Rattle.units.specs.Words.{words, wordCount}
+use Rattle.units.specs.laws.Rules.{none-holds}
+use Rattle.units.specs.laws.Words.{length-words, words-taken}
+use Rattle.codec.specs.declared.Extent.{Extent}
+use Rattle.codec.specs.Codec.{Codec, taken, fault}
+use Rattle.codec.specs.BytePixels.{byteRules, byteCodec}
+use Rattle.codec.specs.WordPixels.{wordRules, wordCodec}
+use Rattle.codec.specs.RunPixels.{runsFrom, runExtent, runCodec}
+use Rattle.codec.specs.PairPixels.{pairsFrom, pairExtent, pairCodec}
+use Rattle.codec.specs.Table.{noCodec, codecOf}
+use Rattle.codec.specs.laws.Table.{every}
+use Rattle.codec.specs.laws.RunReading.{length-runPixels, status-total, extent-within, extent-total}
+use Rattle.codec.specs.laws.PairReading.{length-pairPixels, pairs-fit, pairs-taken}
+
+pub record Lawful (c : Codec) : Type 0 where
+  -- a body with the status 0 has as many pixels as the row
+  pub full : (b : List ℕ) (p : ℕ) → first (c .rules b p) ≡ 0 → length (c .pixels b p) ≡ p
+  -- without a header: what is not lost is there, and what is good gives a whole row
+  pub within : (r : List ℕ) (p : ℕ) → c .extent r p .lost ≡ false → c .extent r p .used .0 ≤ length r
+  pub taken-full : (r : List ℕ) (p : ℕ) → c .extent r p .status ≡ 0 → length (c .pixels (take (c .extent r p .used .0) r) p) ≡ p
+
+-- a table of one test without a fault
+one-test : (over : Bool) (n : ℕ) → cond over (fault 1) (taken n) .status ≡ 0 → over ≡ false
+one-test true n h = absurd (omega arith)
+one-test false n h = refl
+
+-- what is not lost is good, where every fault loses the line
+kept-test : (over : Bool) (n : ℕ) → cond over (fault 1) (taken n) .lost ≡ false → over ≡ false
+kept-test true n h = absurd (false≢true (sym h))
+kept-test false n h = refl
+
+bytes : Lawful byteCodec
+bytes =
+    record {
+      full =
+          λ b p h.
+          let n : length b ≡ p + p % 2 =
+          eqb-true (length b) (p + p % 2) (not-false (eqb (length b) (p + p % 2)) (none-holds (byteRules b p) tt h .0)) in
+          length-take-le p b (omega arith);
+      within =
+          λ r p h.
+          let e : ltb (length r) p ≡ false = kept-test (ltb (length r) p) p h in
+          rw e (ltb-false (length r) p e);
+      taken-full =
+          λ r p h.
+          let e : ltb (length r) p ≡ false = one-test (ltb (length r) p) p h in
+          let n : p ≤ length r = ltb-false (length r) p e in
+          rw e (length-take-le p (take p r) (omega (arith, length-take-le p r n)));
+    }
+
+word-pixels : Lawful wordCodec
+word-pixels =
+    record {
+      full =
+          λ b p h.
+          let n : wordCount b .0 ≡ p =
+          eqb-true (wordCount b .0) p (not-false (eqb (wordCount b .0) p) (none-holds (wordRules b p) tt h .0)) in
+          length-take-le p (words b) (omega (arith, length-words b));
+      within =
+          λ r p h.
+          let e : ltb (wordCount r .0) p ≡ false = kept-test (ltb (wordCount r .0) p) (wordBytes p) h in
+          let n : p ≤ wordCount r .0 = ltb-false (wordCount r .0) p e in
+          rw e (omega arith);
+      taken-full =
+          λ r p h.
+          let e : ltb (wordCount r .0) p ≡ false = one-test (ltb (wordCount r .0) p) (wordBytes p) h in
+          let n : p ≤ wordCount r .0 = ltb-false (wordCount r .0) p e in
+          rw e (ap length (words-taken r p) ∙ length-take-le p (words r) (omega (arith, length-words r)));
+    }
+
+-- runs and pairs, by the tests in their order
+good-if : (a b : Bool) (n : ℕ) (rest : Extent) → (rest .lost ≡ false → rest .status ≡ 0)
+    → cond a (fault 7) (cond b (taken n) rest) .lost ≡ false → cond a (fault 7) (cond b (taken n) rest) .status ≡ 0
+good-if true b n rest ih h = absurd (false≢true (sym h))
+good-if false true n rest ih h = refl
+good-if false false n rest ih h = ih h
+
+runs-good : (v left : ℕ) (ws : List ℕ) (used : ℕ) → runsFrom v left ws used .lost ≡ false → runsFrom v left ws used .status ≡ 0
+unfolding runsFrom
+runs-good v left [] used h = absurd (false≢true (sym h))
+runs-good v left (n ∷ ws) used h =
+    good-if (ltb left n) (eqb v 0 && eqb left n) (used + wordBytes 1) (runsFrom (1 - v) (left - n) ws (used + wordBytes 1))
+    (runs-good (1 - v) (left - n) ws (used + wordBytes 1)) h
+
+runs : Lawful runCodec
+runs =
+    record {
+      full = λ b p h. length-runPixels 0 (words b) ∙ status-total b p h;
+      within = λ r p h. extent-within r p (runExtent r p) refl (runs-good 0 p (words r) 0 h);
+      taken-full =
+          λ r p h. length-runPixels 0 (words (take (runExtent r p .used .0) r)) ∙ extent-total r p (runExtent r p) refl h;
+    }
+
+pairs-good : (left : ℕ) (ws : List ℕ) (used : ℕ) → pairsFrom left ws used .lost ≡ false → pairsFrom left ws used .status ≡ 0
+unfolding pairsFrom
+pairs-good left [] used h = absurd (false≢true (sym h))
+pairs-good left (v ∷ []) used h = absurd (false≢true (sym h))
+pairs-good left (v ∷ (n ∷ ws)) used h =
+    good-if (ltb left n) (eqb left n) (used + wordBytes 2) (pairsFrom (left - n) ws (used + wordBytes 2))
+    (pairs-good (left - n) ws (used + wordBytes 2)) h
+
+pairs : Lawful pairCodec
+pairs =
+    record {
+      full = λ b p h. length-pairPixels (words b) ∙ pairs-fit b p h;
+      within = λ r p h. pairs-taken r p (pairExtent r p) refl (pairs-good p (words r) 0 h) .0;
+      taken-full =
+          λ r p h.
+          length-pairPixels (words (take (pairExtent r p .used .0) r)) ∙ pairs-taken r p (pairExtent r p) refl h .1;
+    }
+
+none : Lawful noCodec
+none =
+    record {
+      full = λ b p h. absurd (omega arith);
+      within = λ r p h. absurd (false≢true (sym h));
+      taken-full = λ r p h. absurd (omega arith);
+    }
+
+pub lawful : (t : ℕ) → Lawful (codecOf t)
+lawful t = every Lawful t (bytes, (word-pixels, (runs, (pairs, tt)))) none

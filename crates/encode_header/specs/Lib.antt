@@ -1,0 +1,5 @@
+pub mod Header
+pub mod Job
+pub mod Picture
+pub mod Resolution
+pub mod laws

@@ -1,0 +1,48 @@
+-- Words as bytes: laws of `wordsToBytes`, and of the stores that put a word where it belongs.
+use Prim.Native.Nat.{ℕ, suc, _+_, _*_, _%_, _/_, _≤_, _<_}
+use mathlib.Core.Path.{_≡_, refl, ap}
+use mathlib.Core.List.{List, [], _∷_, _++_}
+use native.Mathlib.Numerals.{add-one, add-two}
+use native.Mathlib.Omega.{arith}
+use lib.ListN.{length, getD, drop, set, drop-of-length-le}
+use lib.Seq.{sets, drop-cons, length-sets}
+use Rattle.units.specs.Words.{wordsToBytes}
+use Rattle.units.specs.laws.Over.{sets-past}
+
+pub length-bytes : (ws : List ℕ) → length (wordsToBytes ws) ≡ 2 * length ws
+unfolding wordsToBytes
+length-bytes [] = refl
+length-bytes (w ∷ r) = omega (arith, length-bytes r)
+
+pub bytes-append : (a b : List ℕ) → wordsToBytes (a ++ b) ≡ wordsToBytes a ++ wordsToBytes b
+unfolding wordsToBytes
+bytes-append [] b = refl
+bytes-append (w ∷ a) b = ap (λ (l : List ℕ). w % 256 ∷ (w / 256 ∷ l)) (bytes-append a b)
+
+-- one word, then the others
+pub sets-word : (out : List ℕ) (at w : ℕ) (r : List ℕ)
+    → sets out at (wordsToBytes (w ∷ r)) ≡ sets (sets out at (w % 256 ∷ (w / 256 ∷ []))) (at + 2) (wordsToBytes r)
+unfolding wordsToBytes
+sets-word out at w r = rw (add-two at)
+
+-- pixel i of a row, then those behind it
+pub sets-pixel : (row out : List ℕ) (i : ℕ) → i < length row
+    → sets out (2 * i) (wordsToBytes (drop i row))
+    ≡ sets (set (set out (2 * i) (getD row i 0 % 256)) (2 * i + 1) (getD row i 0 / 256)) (2 * (i + 1)) (wordsToBytes (drop (i + 1) row))
+unfolding wordsToBytes
+sets-pixel row out i h =
+    let e : 2 * (i + 1) ≡ suc (suc (2 * i)) = omega arith in
+    rw (e, add-one (2 * i), add-one i, drop-cons row i 0 h)
+
+-- no pixel is left
+pub sets-none : (row out : List ℕ) (i : ℕ) → length row ≤ i → sets out (2 * i) (wordsToBytes (drop i row)) ≡ out
+unfolding wordsToBytes
+sets-none row out i h = rw (drop-of-length-le row {i = i} h)
+
+-- pixels are left, and the buffer ends with the first of them
+pub sets-last : (row out : List ℕ) (i : ℕ) → i < length row → length out ≤ 2 * i + 2
+    → sets out (2 * i) (wordsToBytes (drop i row)) ≡ sets out (2 * i) (getD row i 0 % 256 ∷ (getD row i 0 / 256 ∷ []))
+sets-last row out i h g =
+    let v = getD row i 0 % 256 ∷ (getD row i 0 / 256 ∷ []) in
+    rw (drop-cons row i 0 h, sets-word out (2 * i) (getD row i 0) (drop (suc i) row))
+    (sets-past (sets out (2 * i) v) (2 * i + 2) (wordsToBytes (drop (suc i) row)) (omega (arith, length-sets out (2 * i) v)))
