@@ -7,7 +7,7 @@ use Rattle.units.specs.LittleEndian.{byteAt, u16At}
 use Rattle.units.specs.Scan.{scan}
 use Rattle.color.specs.declared.ColorAnswer.{ColorAnswer}
 use Rattle.color.specs.declared.ColorAnswer.the-variants.{Rejected, Found}
-use Rattle.header.specs.Fields.{fieldsOf}
+use Rattle.fields.specs.Fields.{fieldsOf}
 use Rattle.header.specs.Rejections.{rejectionTo22, entryStart, slotAt}
 
 -- the number of the rejection or 0, and the three parts

@@ -1,8 +1,8 @@
 // The color of a pixel value in a file, by the file's color table.
 ghost use mathlib.Core.Path.{_≡_};
 ghost use Rattle.color.specs.Color.{colorNumbers, colorReading, grayColor, igdsColor, environColor, entryColor};
+use fields::fields_of;
 use header::entry_start;
-use header::fields_of;
 use header::rejection_to_22;
 use header::slot_at;
 use units::byte_at;

@@ -1,4 +1,4 @@
-pub mod Fields
 pub mod Reading
 pub mod Rejections
+pub mod Resolution
 pub mod laws

@@ -3,10 +3,11 @@ use Prim.Native.Nat.{ℕ}
 use mathlib.Core.Bool.{cond}
 use mathlib.Core.List.{List}
 use lib.Dec.{eqb}
-use Rattle.header.specs.declared.fields.Fields.{Fields}
-use Rattle.header.specs.declared.fields.HeaderAnswer.{HeaderAnswer}
-use Rattle.header.specs.declared.fields.HeaderAnswer.the-variants.{Rejected, Accepted}
-use Rattle.header.specs.Fields.{fieldsOf, headerBlocks, resolution, resolutionNumbers, resolutionOf, ResolutionNumbers}
+use Rattle.fields.specs.declared.Fields.{Fields}
+use Rattle.header.specs.declared.reading.HeaderAnswer.{HeaderAnswer}
+use Rattle.header.specs.declared.reading.HeaderAnswer.the-variants.{Rejected, Accepted}
+use Rattle.fields.specs.Fields.{fieldsOf, headerBlocks}
+use Rattle.header.specs.Resolution.{resolution, resolutionNumbers, resolutionOf, ResolutionNumbers}
 use Rattle.header.specs.Rejections.{rejectionTo22}
 
 -- the number of the rejection or 0, and the fields in the paper's order

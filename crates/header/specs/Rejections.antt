@@ -11,8 +11,8 @@ use Rattle.units.specs.Counts.{nBlocks, nWords, wordsOfBlocks, bytesOfBlocks, b
 use Rattle.units.specs.LittleEndian.{u16At}
 use Rattle.units.specs.Rules.{Rule, rule, first}
 use Rattle.units.specs.Scan.{scan}
-use Rattle.header.specs.declared.fields.Fields.{Fields}
-use Rattle.header.specs.Fields.{fieldsOf, headerWords, headerBlocks}
+use Rattle.fields.specs.declared.Fields.{Fields}
+use Rattle.fields.specs.Fields.{fieldsOf, headerWords, headerBlocks}
 use Rattle.limits.specs.Limits.{limitRules}
 
 -- the byte where the Environ-V entry i, from 0, starts: each entry is four words, slot, red, green, blue

@@ -2,12 +2,12 @@
 // the table that holds, or 0.
 ghost use mathlib.Core.Path.{_≡_};
 ghost use Rattle.units.specs.Rules.{first};
-ghost use Rattle.header.specs.Fields.{headerWords, headerBlocks};
+ghost use Rattle.fields.specs.Fields.{headerWords, headerBlocks};
 ghost use Rattle.header.specs.Rejections.{frameRules, colorTableRules, rejectionTo22, sharesSlot, slotOccurs, entryStart, slotAt};
-use crate::fields::Fields;
-use crate::fields::fields_of;
-use crate::fields::header_blocks;
-use crate::fields::header_words;
+use fields::Fields;
+use fields::fields_of;
+use fields::header_blocks;
+use fields::header_words;
 use limits::limit_rejection;
 use units::Blocks;
 use units::Bytes;

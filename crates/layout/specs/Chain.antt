@@ -6,7 +6,7 @@ use mathlib.Core.List.{List, [], _∷_, _++_}
 use lib.ListN.{drop}
 use lib.Dec.{eqb}
 use Rattle.units.specs.Counts.{bytesOfBlocks}
-use Rattle.header.specs.Fields.{fieldsOf, headerBlocks}
+use Rattle.fields.specs.Fields.{fieldsOf, headerBlocks}
 use Rattle.layout.specs.declared.RasterLayout.{RasterLayout}
 use Rattle.layout.specs.Scanline.{Reading, Step, headOf, bodyOf, stepOf, readingOf, unreached}
 

@@ -32,7 +32,7 @@ fn show(file: &[u8], r: RasterAnswer, pixels: &[u16], marks: &[u8]) {
         print(&out, end);
         return;
     }
-    let h = header::fields_of(file);
+    let h = fields::fields_of(file);
     let size = put_size(&mut out, h.dtc, h.ppl, h.nol);
     let head = put_answer(&mut out, size, r);
     let end = put_rows(

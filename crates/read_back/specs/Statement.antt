@@ -6,7 +6,7 @@ use mathlib.Core.List.{List, _++_}
 use lib.ListN.{length, getD, drop}
 use lib.Dec.{eqb, ltb}
 use Rattle.units.specs.Over.{zeros}
-use Rattle.header.specs.Fields.{resolutionOf}
+use Rattle.header.specs.Resolution.{resolutionOf}
 use Rattle.header.specs.Reading.{HeaderNumbers, headerReading}
 use Rattle.color.specs.Color.{ColorNumbers, scaled, color, noColor, grayColor, colorReading}
 use Rattle.layout.specs.Reading.{rasterReading, pixelsAfter, marksAfter}

@@ -7,8 +7,8 @@ use borrow.Author.Needs.{needs}
 use Rattle.color.specs.Color.{ColorNumbers, colorReading, noColor, grayColor, igdsColor, environColor}
 use Rattle.header.specs.laws.Accepted.{Accepted, accepted}
 use Rattle.header.specs.Rejections.{rejectionTo22}
-use Rattle.header.specs.Fields.{fieldsOf}
-use Rattle.header.specs.declared.fields.Fields.{Fields}
+use Rattle.fields.specs.Fields.{fieldsOf}
+use Rattle.fields.specs.declared.Fields.{Fields}
 use Rattle.color.proofs.color_of.Statement.{statement}
 use Rattle.color.proofs.color_of.Tie as tie
 

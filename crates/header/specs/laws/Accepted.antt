@@ -10,7 +10,7 @@ use borrow.Author.Tests.{ltb-false, eqb-true, eq-eqb, not-false}
 use Rattle.units.specs.laws.Rules.{none-holds, both-none}
 use Rattle.units.specs.laws.Numbers.{above-zero}
 use Rattle.units.specs.Counts.{wordsOfBlocks, bytesOfBlocks, bytesIn}
-use Rattle.header.specs.Fields.{fieldsOf, headerWords, headerBlocks}
+use Rattle.fields.specs.Fields.{fieldsOf, headerWords, headerBlocks}
 use Rattle.header.specs.Rejections.{Rules13, frameRules, fieldRules, colorTableRules, rejectionTo22, sharesSlot, entryStart}
 use Rattle.limits.specs.laws.Limits.{Within, within}
 

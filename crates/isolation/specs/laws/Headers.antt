@@ -7,8 +7,8 @@ use native.Mathlib.Omega.{arith}
 use lib.ListN.{length, getD}
 use lib.Dec.{eqb}
 use borrow.Author.Tests.{eqb-true}
-use Rattle.header.specs.declared.fields.Fields.{Fields}
-use Rattle.header.specs.Fields.{fieldsOf}
+use Rattle.fields.specs.declared.Fields.{Fields}
+use Rattle.fields.specs.Fields.{fieldsOf}
 use Rattle.header.specs.Rejections.{slotAt, entryStart, slotOccurs, sharesSlot, frameRules, colorTableRules, rulesTo22}
 use Rattle.limits.specs.Limits.{limitRules}
 use Rattle.units.specs.Counts.{bytesIn}

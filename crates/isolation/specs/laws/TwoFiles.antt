@@ -8,8 +8,8 @@ use lib.ListN.{length, getD, drop, length-drop}
 use Rattle.units.specs.Counts.{bytesOfBlocks}
 use Rattle.units.specs.Rules.{Rule, first}
 use Rattle.units.specs.laws.Rules.{first-later}
-use Rattle.header.specs.declared.fields.Fields.{Fields}
-use Rattle.header.specs.Fields.{fieldsOf, headerBlocks}
+use Rattle.fields.specs.declared.Fields.{Fields}
+use Rattle.fields.specs.Fields.{fieldsOf, headerBlocks}
 use Rattle.header.specs.Rejections.{rejectionTo22, rulesTo22}
 use Rattle.header.specs.laws.Accepted.{accepted}
 use Rattle.layout.specs.Scanline.{headOf}

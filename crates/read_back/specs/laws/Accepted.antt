@@ -11,8 +11,9 @@ use Rattle.units.specs.Counts.{nBlocks, nBytes, bytesOfBlocks, bytesIn}
 use Rattle.units.specs.Over.{zeros}
 use Rattle.units.specs.Rules.{first}
 use Rattle.units.specs.laws.Rules.{first-later}
-use Rattle.header.specs.declared.fields.Fields.{Fields}
-use Rattle.header.specs.Fields.{fieldsOf, headerBlocks, resolutionOf}
+use Rattle.fields.specs.declared.Fields.{Fields}
+use Rattle.fields.specs.Fields.{fieldsOf, headerBlocks}
+use Rattle.header.specs.Resolution.{resolutionOf}
 use Rattle.limits.specs.laws.Limits.{none-rejects}
 use Rattle.header.specs.Rejections.{frameRules, fieldRules, colorTableRules, rulesTo22, rejectionTo22}
 use Rattle.header.specs.Reading.{headerReading, fieldNumbers}

@@ -9,8 +9,8 @@ use lib.Seq.{getD-append-add}
 use lib.Dec.{eqb, ltb}
 use borrow.Author.Tests.{eqb-true, ltb-false}
 use Rattle.units.specs.LittleEndian.{byteAt}
-use Rattle.header.specs.declared.fields.Fields.{Fields}
-use Rattle.header.specs.Fields.{fieldsOf}
+use Rattle.fields.specs.declared.Fields.{Fields}
+use Rattle.fields.specs.Fields.{fieldsOf}
 use Rattle.color.specs.Color.{scaled, color, noColor, grayColor, igdsColor, environColor, colorReading}
 use Rattle.encode_header.specs.Picture.{Picture}
 use Rattle.encode_header.specs.Header.{tableArea}

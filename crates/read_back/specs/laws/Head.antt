@@ -9,8 +9,8 @@ use lib.Dec.{eqb}
 use Rattle.units.specs.declared.Blocks.{Blocks}
 use Rattle.units.specs.Counts.{nBlocks, nWords, wordsOfBlocks}
 use Rattle.units.specs.LittleEndian.{u16At, u32At}
-use Rattle.header.specs.declared.fields.Fields.{Fields}
-use Rattle.header.specs.Fields.{fieldsOf}
+use Rattle.fields.specs.declared.Fields.{Fields}
+use Rattle.fields.specs.Fields.{fieldsOf}
 use Rattle.codec.specs.laws.Table.{type-most}
 use Rattle.encode_header.specs.Picture.{Picture}
 use Rattle.encode_header.specs.Header.{headerBytes, tableArea}

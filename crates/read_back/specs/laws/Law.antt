@@ -5,7 +5,7 @@ use mathlib.Core.List.{List, _++_}
 use native.Mathlib.Omega.{arith}
 use lib.ListN.{length, drop}
 use borrow.Author.Tests.{eq-eqb}
-use Rattle.header.specs.declared.fields.Fields.{Fields}
+use Rattle.fields.specs.declared.Fields.{Fields}
 use Rattle.layout.specs.Chain.{Raster, sheetOf, start, rows, statuses, goodCount}
 use Rattle.layout.specs.Reading.{RasterNumbers, answerOf, readNumbers, rasterReading, pixelsAfter, marksAfter}
 use Rattle.encode_header.specs.Picture.{Picture}

@@ -6,7 +6,7 @@ use borrow.Author.Tests.{lt-ltb, le-ltb, eq-eqb, ne-eqb}
 use borrow.Author.Needs.{needs}
 use Rattle.units.specs.Rules.{first}
 use Rattle.units.specs.Counts.{wordsOfBlocks, bytesOfBlocks}
-use Rattle.header.specs.Fields.{headerWords, headerBlocks}
+use Rattle.fields.specs.Fields.{headerWords, headerBlocks}
 use Rattle.header.specs.Rejections.{frameRules}
 use Rattle.header.proofs.rejection.frame_rejection.Statement.{statement}
 use Rattle.header.proofs.rejection.frame_rejection.Tie as tie

@@ -4,8 +4,8 @@ use Prim.Native.Nat.{ℕ}
 use borrow.Author.Needs.{needs}
 use Rattle.units.specs.Counts.{bytesIn}
 use Rattle.units.specs.Rules.{Rule, first}
-use Rattle.header.specs.declared.fields.Fields.{Fields}
-use Rattle.header.specs.Fields.{fieldsOf, headerWords, headerBlocks}
+use Rattle.fields.specs.declared.Fields.{Fields}
+use Rattle.fields.specs.Fields.{fieldsOf, headerWords, headerBlocks}
 use Rattle.header.specs.Rejections.{rejectionTo22, frameRules, fieldRules, colorTableRules}
 use Rattle.units.specs.laws.Rules.{by-first, by-second}
 use Rattle.header.proofs.rejection.rejection_to_22.Statement.{statement}

@@ -3,7 +3,7 @@ use native.Mathlib.Omega.{arith}
 use borrow.Author.Tests.{lt-ltb, le-ltb, eq-eqb, ne-eqb}
 use borrow.Author.Needs.{needs}
 use Rattle.units.specs.Counts.{bytesOfBlocks}
-use Rattle.header.specs.Fields.{headerBlocks}
+use Rattle.fields.specs.Fields.{headerBlocks}
 use Rattle.header.specs.Rejections.{entryStart}
 use Rattle.header.proofs.rejection.table_rejection.Statement.{statement}
 use Rattle.header.proofs.rejection.table_rejection.Tie as tie

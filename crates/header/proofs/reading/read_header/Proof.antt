@@ -5,10 +5,10 @@ use mathlib.Core.Path.{_≡_, sym, _∙_, ap}
 use borrow.Author.Needs.{needs}
 use Rattle.header.specs.Reading.{HeaderNumbers, headerReading, rejectedNumbers, fieldNumbers}
 use Rattle.header.specs.Rejections.{rejectionTo22}
-use Rattle.header.specs.declared.fields.Fields.{Fields}
-use Rattle.header.specs.Fields.{fieldsOf, headerBlocks}
-use Rattle.header.proofs.fields.read_header.Statement.{statement}
-use Rattle.header.proofs.fields.read_header.Tie as tie
+use Rattle.fields.specs.declared.Fields.{Fields}
+use Rattle.fields.specs.Fields.{fieldsOf, headerBlocks}
+use Rattle.header.proofs.reading.read_header.Statement.{statement}
+use Rattle.header.proofs.reading.read_header.Tie as tie
 
 rejected-numbers : (f : List ℕ) {n : ℕ} → n ≡ rejectionTo22 f → (n ≡ 0 → ⊥) → rejectedNumbers n ≡ headerReading f
 rejected-numbers f e some = rw (ne-eqb (rejectionTo22 f) 0 (λ z. some (e ∙ z))) (ap rejectedNumbers e)

@@ -1,6 +1,6 @@
 use borrow.Author.Needs.{needs}
-use Rattle.header.proofs.fields.accepted.Statement.{statement}
-use Rattle.header.proofs.fields.accepted.Tie as tie
+use Rattle.header.proofs.reading.accepted.Statement.{statement}
+use Rattle.header.proofs.reading.accepted.Tie as tie
 
 returns : tie.Need-returns
 returns c = cc

@@ -1,8 +1,8 @@
 use native.Mathlib.Omega.{arith}
 use borrow.Author.Needs.{needs}
 use Rattle.units.specs.LittleEndian.{u16At}
-use Rattle.header.proofs.fields.header_blocks.Statement.{statement}
-use Rattle.header.proofs.fields.header_blocks.Tie as tie
+use Rattle.fields.proofs.header_blocks.Statement.{statement}
+use Rattle.fields.proofs.header_blocks.Tie as tie
 
 -- WTF is of two bytes, so its blocks fit their type
 returns : tie.Need-returns

@@ -1,6 +1,6 @@
 use borrow.Author.Needs.{needs}
-use Rattle.header.proofs.fields.fields_of.Statement.{statement}
-use Rattle.header.proofs.fields.fields_of.Tie as tie
+use Rattle.fields.proofs.fields_of.Statement.{statement}
+use Rattle.fields.proofs.fields_of.Tie as tie
 
 returns : tie.Need-returns
 returns c = cc

@@ -1,7 +1,7 @@
 use borrow.Author.Tests.{lt-ltb, le-ltb, eq-eqb, ne-eqb}
 use borrow.Author.Needs.{needs}
-use Rattle.header.proofs.fields.resolution_of.Statement.{statement}
-use Rattle.header.proofs.fields.resolution_of.Tie as tie
+use Rattle.header.proofs.reading.resolution_of.Statement.{statement}
+use Rattle.header.proofs.reading.resolution_of.Tie as tie
 
 returns : tie.Need-returns
 returns c = simp (eq-eqb _ _ (c .if1 .taken))
