@@ -1,4 +1,4 @@
--- Laws of Leading.
+-- How many pixels at the start of a row have a value, and the run that they end.
 use Prim.Native.Nat.{ℕ, suc, _+_, _-_, _≤_, _<_, zero-le}
 use mathlib.Core.Path.{_≡_, sym, _∙_, ap}
 use mathlib.Core.Bool.{Bool, true, false, cond}

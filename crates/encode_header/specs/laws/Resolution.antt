@@ -1,4 +1,4 @@
--- Laws of Resolution.
+-- The bits of a signed number, turned or kept.
 use mathlib.Core.Path.{_≡_, refl, sym, _∙_, ap, subst}
 use mathlib.Core.Bool.{true, false}
 use Prim.Native.Nat.{ℕ, suc, _-_, _<_}

@@ -1,4 +1,4 @@
--- A written file is not rejected: no row of the table holds. So its header is the one given, and its scanlines start after it.
+-- A written file is not rejected: no rule of the table holds. So its header is the one given, and its scanlines start after it.
 use Prim.Native.Nat.{ℕ, _+_, _-_, _*_, _≤_, _<_}
 use mathlib.Core.Path.{_≡_, refl, sym, _∙_, ap, subst}
 use mathlib.Core.Bool.{Bool, true, false, cond, _||_}
@@ -34,7 +34,7 @@ area-if true full table e h = omega (arith, length-replicate {A = ℕ} 256 0)
 area-if false true table e h = omega (arith, eqb-true (length table) 768 e)
 area-if false false table e h = absurd (let z : _≡_ {A = ℕ} 0 1 = cc in omega arith)
 
--- the rows, for a picture without a table (true) or with one
+-- the rules, for a picture without a table (true) or with one
 frame-none : (i : Picture) (none : Bool) (n : ℕ) → bytesOfBlocks (blocksIf none) .0 ≤ n → n ≤ 2147483647 → first (frameRules (nBytes n) (fieldsIf i none)) ≡ 0
 frame-none i true n l u = simp (le-ltb 2147483647 n u, le-ltb n 1024 l)
 frame-none i false n l u = simp (le-ltb 2147483647 n u, le-ltb n 1024 (omega arith), le-ltb n 1536 l)

@@ -1,4 +1,4 @@
--- What holds of a picture that the writer does not reject: no row of its table does.
+-- What holds of a picture that the writer does not reject: no rule of its table does.
 use Prim.Native.Nat.{ℕ, _*_, _≤_}
 use mathlib.Core.Path.{_≡_}
 use mathlib.Core.Bool.{true, false, _||_}

@@ -9,7 +9,7 @@ use borrow.Author.Tests.{eqb-true, eqb-false}
 use mir.Facts.{and-yes}
 use Rattle.units.specs.Rules.{Rule, first}
 
--- no row has the number 0, which says that no test holds
+-- no rule has the number 0, which says that no test holds
 abbrev pub numbered : List Rule → Bool
 numbered [] = true
 numbered (r ∷ rs) = ltb 0 (r .number) && numbered rs

@@ -1,4 +1,4 @@
--- Laws of Scan.
+-- A search over a range: its end, a hit and a miss.
 use Prim.Native.Nat.{ℕ, suc, _+_, _-_, _≤_, _<_}
 use mathlib.Core.Path.{_≡_, ap, sym}
 use mathlib.Core.Bool.{Bool, true, false}
