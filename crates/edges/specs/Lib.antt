@@ -1,4 +1,5 @@
 pub mod Cases
 pub mod Files
+pub mod Pairs
 pub mod Written
 pub mod laws

@@ -1,2 +1,3 @@
 pub mod Cases
+pub mod Pairs
 pub mod Written

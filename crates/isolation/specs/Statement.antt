@@ -2,14 +2,15 @@
 -- s are their rasters.
 use Prim.Native.Nat.{ℕ, _+_, _*_, _≤_, _<_}
 use mathlib.Core.Path.{_≡_}
-use mathlib.Core.Logic.{_↔_}
+use mathlib.Core.Logic.{_↔_, _⊎_}
 use mathlib.Core.Bool.{true, false}
 use mathlib.Core.List.{List, []}
 use lib.ListN.{length, getD, take, drop}
 use Rattle.units.specs.Over.{zeros}
+use Rattle.units.specs.Rules.{first}
 use Rattle.layout.specs.Scanline.{Reading, reading, unreached}
 use Rattle.layout.specs.Chain.{Raster, sheetOf, start, reached, headAt, bodyAt, numberOf, endOf}
-use Rattle.layout.specs.Reading.{RasterNumbers, rasterRejection, rasterReading, rejectedRaster, pixelsAfter, marksAfter}
+use Rattle.layout.specs.Reading.{RasterNumbers, bufferRules, rasterRejection, rasterReading, rejectedRaster, pixelsAfter, marksAfter, countGood}
 
 -- byte i lies inside the body of a scanline, from the first to the last, that the chain reaches
 pub record InBody (r : Raster) (i : ℕ) : Type 0 where
@@ -42,9 +43,12 @@ pub record OneReading (r s : Raster) (a : RasterNumbers) (pixels marks : List �
   pub rest : (k : ℕ) → k < r .nol → reached r k ≡ false → LineIs (r .ppl) k pixels marks (unreached (r .ppl))
   -- where the status is above 0 the row is all zeros
   pub blank : (k : ℕ) → k < r .nol → (getD marks k 0 ≡ 0 → ⊥) → take (r .ppl) (drop (k * r .ppl) pixels) ≡ zeros (r .ppl)
-  -- the end is the one defined, and the answer is 0 exactly where every scanline has the status 0
+  -- the end is the one defined; the answer is 0 or 1, and 0 exactly where every scanline has the status 0; and the number of
+  -- good ones is that of the zeros among the statuses, as they stand in the buffer
   pub end : a .end ≡ endOf s
+  pub is-read : (a .answer ≡ 0) ⊎ (a .answer ≡ 1)
   pub answer : (a .answer ≡ 0) ↔ ((k : ℕ) → k < r .nol → getD marks k 0 ≡ 0)
+  pub good : a .good ≡ countGood (take (r .nol) marks)
 
 -- what the two readings have in common where neither is rejected
 pub record TwoReadings (r s : Raster) (a₁ : RasterNumbers) (pixels₁ marks₁ : List ℕ) (a₂ : RasterNumbers) (pixels₂ marks₂ : List ℕ) : Type 0 where
@@ -57,12 +61,25 @@ pub record TwoReadings (r s : Raster) (a₁ : RasterNumbers) (pixels₁ marks₁
   pub same-line : (k : ℕ) → k < r .nol → bodyAt s k ≡ bodyAt r k → SameLine (r .ppl) k pixels₁ marks₁ pixels₂ marks₂
   pub no-body : (k : ℕ) → k < r .nol → bodyAt r k ≡ [] → SameLine (r .ppl) k pixels₁ marks₁ pixels₂ marks₂
 
--- The claim. The second reading was lent buffers of `room` pixels and `lines` statuses: it is rejected only where one of
--- them is too short.
-pub record Isolated (f g : List ℕ) (room lines : ℕ) (a₁ : RasterNumbers) (pixels₁ marks₁ : List ℕ) (a₂ : RasterNumbers) (pixels₂ marks₂ : List ℕ) : Type 0 where
-  pub short-pixels : room < sheetOf f .nol * sheetOf f .ppl → a₂ ≡ rejectedRaster 23
-  pub short-marks : sheetOf f .nol * sheetOf f .ppl ≤ room → lines < sheetOf f .nol → a₂ ≡ rejectedRaster 24
-  pub otherwise : sheetOf f .nol * sheetOf f .ppl ≤ room → sheetOf f .nol ≤ lines → TwoReadings (sheetOf f) (sheetOf g) a₁ pixels₁ marks₁ a₂ pixels₂ marks₂
+-- the number that the two buffers alone are rejected with, 23 or 24 where one is too short for r, or 0
+abbrev pub bufferRejection : Raster → List ℕ → List ℕ → ℕ
+bufferRejection r pixels marks = first (bufferRules (r .ppl) (r .nol) (length pixels) (length marks))
+
+-- a rejected reading: the number and zeros, and both buffers as they were
+pub record RejectedReading (n : ℕ) (pixels marks : List ℕ) (a : RasterNumbers) (pixels′ marks′ : List ℕ) : Type 0 where
+  pub number : a ≡ rejectedRaster n
+  pub pixels-stay : pixels′ ≡ pixels
+  pub marks-stay : marks′ ≡ marks
+
+-- The claim. The second reading was lent `pixels` and `marks`; pixels₁ and so on are what the buffers hold afterwards.
+pub record Isolated (f g pixels marks : List ℕ) (a₁ : RasterNumbers) (pixels₁ marks₁ : List ℕ) (a₂ : RasterNumbers) (pixels₂ marks₂ : List ℕ) : Type 0 where
+  -- the second is rejected only where a buffer lent to it is too short: its rejection is that of the two buffers alone
+  pub rejection : rasterRejection g (length pixels) (length marks) ≡ bufferRejection (sheetOf f) pixels marks
+  -- so it is not where it is lent as much as the first
+  pub as-much : length pixels₁ ≤ length pixels → length marks₁ ≤ length marks → bufferRejection (sheetOf f) pixels marks ≡ 0
+  pub rejected : (bufferRejection (sheetOf f) pixels marks ≡ 0 → ⊥)
+      → RejectedReading (bufferRejection (sheetOf f) pixels marks) pixels marks a₂ pixels₂ marks₂
+  pub otherwise : bufferRejection (sheetOf f) pixels marks ≡ 0 → TwoReadings (sheetOf f) (sheetOf g) a₁ pixels₁ marks₁ a₂ pixels₂ marks₂
 
 -- Demand 3, of the definitions that the promise of `read_raster` cites. `isolated` proves it.
 abbrev pub Demand3 : Type 0
@@ -71,6 +88,6 @@ Demand3 =
     → sheetOf f .scn ≡ 1
     → rasterRejection f (length pixels₁) (length marks₁) ≡ 0
     → ChangedInBodies f g
-    → Isolated f g (length pixels₂) (length marks₂)
+    → Isolated f g pixels₂ marks₂
     (rasterReading f pixels₁ marks₁) (pixelsAfter f pixels₁ marks₁) (marksAfter f pixels₁ marks₁)
     (rasterReading g pixels₂ marks₂) (pixelsAfter g pixels₂ marks₂) (marksAfter g pixels₂ marks₂)

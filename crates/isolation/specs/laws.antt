@@ -1,5 +1,6 @@
 pub mod Buffers
 pub mod Chained
+pub mod Covered
 pub mod Headed
 pub mod Headers
 pub mod Law

@@ -1,13 +1,14 @@
 -- "Reading a sheet": the reading of a sheet into a buffer of pixels and a buffer of statuses, as the paper's numbers, and what
 -- the buffers hold then.
-use Prim.Native.Nat.{ℕ, _*_}
+use Prim.Native.Nat.{ℕ, _+_, _*_}
+use mathlib.Core.Path.{_≡_}
 use mathlib.Core.Bool.{cond}
 use mathlib.Core.List.{List, [], _∷_, _++_}
-use lib.ListN.{length, drop}
+use lib.ListN.{length, take, drop}
 use lib.Dec.{eqb, ltb}
 use Rattle.units.specs.Rules.{Rule, rule, first}
 use Rattle.header.specs.Rejections.{rulesTo22}
-use Rattle.layout.specs.Chain.{Raster, sheetOf, rows, statuses, goodCount, endOf}
+use Rattle.layout.specs.Chain.{Raster, sheetOf, rows, statuses, oneIfGood, goodCount, endOf}
 
 -- "Numbers a call is refused with": a file's, then 23 and 24
 abbrev pub bufferRules : ℕ → ℕ → ℕ → ℕ → List Rule
@@ -50,3 +51,16 @@ unfoldable pub marksAfter : List ℕ → List ℕ → List ℕ → List ℕ
 marksAfter f pixels marks =
     let r = sheetOf f in
     cond (eqb (rasterRejection f (length pixels) (length marks)) 0) (statuses r (r .nol) ++ drop (r .nol) marks) marks
+
+-- how many of these statuses are 0
+unfoldable pub countGood : List ℕ → ℕ
+countGood [] = 0
+countGood (s ∷ r) = oneIfGood s + countGood r
+
+-- The number of good scanlines is the number of zeros among the statuses as they stand in the buffer afterwards, from the first
+-- scanline to the last. `good-counted` proves it.
+abbrev pub GoodCounted : Type 0
+GoodCounted =
+    (f pixels marks : List ℕ)
+    → rasterRejection f (length pixels) (length marks) ≡ 0
+    → rasterReading f pixels marks .good ≡ countGood (take (sheetOf f .nol) (marksAfter f pixels marks))

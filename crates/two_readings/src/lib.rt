@@ -29,7 +29,7 @@ pub fn read_two(
 ) -> TwoAnswers
     ensures first_call { λ r. ⌜ ReadingOf (now (one .entry)) (now (pixels1 .entry)) (now (marks1 .entry)) (r .first) (now (pixels1 .exit)) (now (marks1 .exit)) ⌝ }
     ensures second_call { λ r. ⌜ ReadingOf (now (two .entry)) (now (pixels2 .entry)) (now (marks2 .entry)) (r .second) (now (pixels2 .exit)) (now (marks2 .exit)) ⌝ }
-    ensures demand_3 { λ r. ⌜ (sheetOf (now (one .entry)) .scn ≡ 1 → rasterRejection (now (one .entry)) (length (now (pixels1 .entry))) (length (now (marks1 .entry))) ≡ 0 → ChangedInBodies (now (one .entry)) (now (two .entry)) → Isolated (now (one .entry)) (now (two .entry)) (length (now (pixels2 .entry))) (length (now (marks2 .entry))) (rasterNumbers (r .first)) (now (pixels1 .exit)) (now (marks1 .exit)) (rasterNumbers (r .second)) (now (pixels2 .exit)) (now (marks2 .exit))) ⌝ }
+    ensures demand_3 { λ r. ⌜ (sheetOf (now (one .entry)) .scn ≡ 1 → rasterRejection (now (one .entry)) (length (now (pixels1 .entry))) (length (now (marks1 .entry))) ≡ 0 → ChangedInBodies (now (one .entry)) (now (two .entry)) → Isolated (now (one .entry)) (now (two .entry)) (now (pixels2 .entry)) (now (marks2 .entry)) (rasterNumbers (r .first)) (now (pixels1 .exit)) (now (marks1 .exit)) (rasterNumbers (r .second)) (now (pixels2 .exit)) (now (marks2 .exit))) ⌝ }
 {
     let first = read_raster(one, pixels1, marks1);
     let second = read_raster(two, pixels2, marks2);

@@ -1,26 +1,29 @@
 -- Demand 3: damage inside the bodies of scanlines stays there.
-use Prim.Native.Nat.{ℕ, _<_}
+use Prim.Native.Nat.{ℕ, _*_, _≤_, _<_}
 use mathlib.Core.Path.{_≡_, refl, sym, _∙_, ap}
 use mathlib.Core.List.{List}
 use lib.ListN.{length}
-use borrow.Author.Tests.{lt-ltb, le-ltb, ne-eqb, eqb-false}
+use native.Mathlib.Omega.{arith}
+use borrow.Author.Tests.{le-ltb, ne-eqb}
 use Rattle.units.specs.laws.Rules.{both-none}
 use Rattle.header.specs.Rejections.{rejectionTo22, rulesTo22}
 use Rattle.layout.specs.Scanline.{Reading}
 use Rattle.layout.specs.Chain.{Raster, sheetOf, start, reached, bodyAt, endOf}
-use Rattle.layout.specs.Reading.{rasterRejection, bufferRules, rejectedRaster, rasterReading, pixelsAfter, marksAfter}
-use Rattle.isolation.specs.Statement.{ChangedInBodies, LineIs, SameLine, TwoReadings, Demand3}
-use Rattle.isolation.specs.laws.OneFile.{withBytes, line-is, one-reading}
+use Rattle.layout.specs.Reading.{rasterRejection, bufferRules, rasterReading, pixelsAfter, marksAfter}
+use Rattle.isolation.specs.Statement.{ChangedInBodies, LineIs, SameLine, TwoReadings, bufferRejection, RejectedReading, Demand3}
+use Rattle.isolation.specs.laws.OneFile.{withBytes, line-is, one-reading, pixels-room, marks-room}
 use Rattle.isolation.specs.laws.TwoFiles.{same-sheet, rejection-is, same-starts, same-reaches, same-readings, also-none}
 
 accepted-file : (f : List ℕ) (room lines : ℕ) → rasterRejection f room lines ≡ 0 → rejectionTo22 f ≡ 0
 unfolding rasterRejection rejectionTo22
 accepted-file f room lines h = both-none (rulesTo22 f) (bufferRules (sheetOf f .ppl) (sheetOf f .nol) room lines) tt h .0
 
-rejected-with : (f pixels marks : List ℕ) (n : ℕ) → rasterRejection f (length pixels) (length marks) ≡ n → (n ≡ 0 → ⊥)
-    → rasterReading f pixels marks ≡ rejectedRaster n
-unfolding rasterReading
-rejected-with f pixels marks n h z = rw (h, ne-eqb n 0 z)
+-- a rejected reading changes nothing
+rejected-with : (f pixels marks : List ℕ) {n : ℕ} → rasterRejection f (length pixels) (length marks) ≡ n → (n ≡ 0 → ⊥)
+    → RejectedReading n pixels marks (rasterReading f pixels marks) (pixelsAfter f pixels marks) (marksAfter f pixels marks)
+unfolding rasterReading pixelsAfter marksAfter
+rejected-with f pixels marks {n} h z =
+    record { number = rw (h, ne-eqb n 0 z); pixels-stay = rw (h, ne-eqb n 0 z); marks-stay = rw (h, ne-eqb n 0 z) }
 
 same-line-of : {p k : ℕ} {pixels₁ marks₁ pixels₂ marks₂ : List ℕ} {r₁ r₂ : Reading} → r₂ ≡ r₁ → LineIs p k pixels₁ marks₁ r₁
     → LineIs p k pixels₂ marks₂ r₂ → SameLine p k pixels₁ marks₁ pixels₂ marks₂
@@ -57,14 +60,21 @@ two-readings f g pixels₁ marks₁ pixels₂ marks₂ one ok taken₁ changed t
       no-body = λ k l b. line k l (also-none r g one (changed .same-length) (changed .elsewhere) k b ∙ sym b);
     }
 
+-- buffers with room are not rejected
+room-enough : (r : Raster) (pixels marks : List ℕ) → r .nol * r .ppl ≤ length pixels → r .nol ≤ length marks → bufferRejection r pixels marks ≡ 0
+room-enough r pixels marks p m = rw (le-ltb (length pixels) (r .nol * r .ppl) p, le-ltb (length marks) (r .nol) m)
+
 pub isolated : Demand3
 isolated f g pixels₁ marks₁ pixels₂ marks₂ one taken₁ changed =
     let ok = accepted-file f (length pixels₁) (length marks₁) taken₁ in
     let n = rejection-is f g one ok changed (length pixels₂) (length marks₂) in
     record {
-      short-pixels = λ h. rejected-with g pixels₂ marks₂ 23 (n ∙ rw (lt-ltb _ _ h)) (eqb-false 23 0 refl);
-      short-marks = λ h l. rejected-with g pixels₂ marks₂ 24 (n ∙ rw (le-ltb _ _ h, lt-ltb _ _ l)) (eqb-false 24 0 refl);
-      otherwise =
-          λ h l.
-          two-readings f g pixels₁ marks₁ pixels₂ marks₂ one ok taken₁ changed (n ∙ rw (le-ltb _ _ h, le-ltb _ _ l));
+      rejection = n;
+      as-much =
+          λ p m.
+          let q = pixels-room f pixels₁ marks₁ taken₁ in
+          let s = marks-room f pixels₁ marks₁ taken₁ in
+          room-enough (sheetOf f) pixels₂ marks₂ (omega arith) (omega arith);
+      rejected = λ h. rejected-with g pixels₂ marks₂ n h;
+      otherwise = λ h. two-readings f g pixels₁ marks₁ pixels₂ marks₂ one ok taken₁ changed (n ∙ h);
     }

@@ -1,16 +1,19 @@
 -- One reading that is not rejected: h is the file that it reads. Its raster is r with the bytes of h, and the scanlines that
 -- are reached are those of r.
-use Prim.Native.Nat.{ℕ, _*_, _<_}
-use mathlib.Core.Path.{_≡_, refl, sym, _∙_, subst⁻¹}
-use mathlib.Core.Bool.{Bool, true, false}
-use mathlib.Core.Logic.{_↔_}
+use Prim.Native.Nat.{ℕ, _+_, _*_, _≤_, _<_}
+use mathlib.Core.Path.{_≡_, refl, sym, _∙_, subst, subst⁻¹}
+use mathlib.Core.Bool.{Bool, true, false, cond}
+use mathlib.Core.Logic.{_↔_, _⊎_, inl, inr}
 use mathlib.Core.List.{List, _++_}
-use lib.ListN.{length, drop}
+use native.Mathlib.Omega.{arith}
+use lib.ListN.{length, take, drop, length-append}
+use lib.Dec.{eqb}
 use Rattle.units.specs.Over.{zeros}
 use Rattle.layout.specs.Scanline.{reading, unreached}
-use Rattle.layout.specs.Chain.{Raster, sheetOf, reached, headAt, bodyAt, numberOf, readingAt, rows, statuses}
-use Rattle.layout.specs.Reading.{rasterRejection, rasterReading, readNumbers, pixelsAfter, marksAfter}
-use Rattle.layout.specs.laws.Chain.{reading-unreached}
+use Rattle.layout.specs.Chain.{Raster, sheetOf, reached, headAt, bodyAt, numberOf, readingAt, rows, statuses, goodCount}
+use Rattle.layout.specs.Reading.{rasterRejection, rasterReading, readNumbers, answerOf, pixelsAfter, marksAfter, countGood}
+use Rattle.layout.specs.laws.Chain.{reading-unreached, length-rows, length-statuses}
+use Rattle.layout.specs.laws.Reading.{good-counted}
 use Rattle.isolation.specs.Statement.{LineIs, OneReading}
 use Rattle.isolation.specs.laws.Chained.{reading-own}
 use Rattle.isolation.specs.laws.Buffers.{AllGood, line-there, answer-good, blank-row}
@@ -52,6 +55,24 @@ module _ (h pixels marks : List ℕ) (taken : rasterRejection h (length pixels) 
   unfolding rasterReading
   answer-is = rw taken
 
+  zero-or-one : (rasterReading h pixels marks .answer ≡ 0) ⊎ (rasterReading h pixels marks .answer ≡ 1)
+  zero-or-one = rw answer-is (go (eqb (goodCount (sheetOf h) (sheetOf h .nol)) (sheetOf h .nol)))
+    where
+      go : (t : Bool) → (_≡_ {A = ℕ} (cond t 0 1) 0) ⊎ (_≡_ {A = ℕ} (cond t 0 1) 1)
+      go true = inl refl
+      go false = inr refl
+
+  -- the buffers have room for every row and every status
+  pub pixels-room : sheetOf h .nol * sheetOf h .ppl ≤ length (pixelsAfter h pixels marks)
+  pixels-room =
+      rw pixels-are
+      (omega (arith, length-append (rows (sheetOf h) (sheetOf h .nol)) (drop (sheetOf h .nol * sheetOf h .ppl) pixels), length-rows (sheetOf h) (sheetOf h .nol)))
+
+  pub marks-room : sheetOf h .nol ≤ length (marksAfter h pixels marks)
+  marks-room =
+      rw marks-are
+      (omega (arith, length-append (statuses (sheetOf h) (sheetOf h .nol)) (drop (sheetOf h .nol) marks), length-statuses (sheetOf h) (sheetOf h .nol)))
+
 module _ (r : Raster) (h : List ℕ) (sheet : sheetOf h ≡ withBytes r h) (one : r .scn ≡ 1)
     (same-reached : (k : ℕ) → reached (withBytes r h) k ≡ reached r k) (pixels marks : List ℕ)
     (taken : rasterRejection h (length pixels) (length marks) ≡ 0) where
@@ -83,6 +104,12 @@ module _ (r : Raster) (h : List ℕ) (sheet : sheetOf h ≡ withBytes r h) (one 
         rest = λ k l q. rw (no-reading r h one same-reached k q) at (line-is k l);
         blank = λ k l z. line-is k l .row ∙ blank-reading r h one same-reached k (λ e. z (line-is k l .status ∙ e));
         end = rw (answer-is h pixels marks taken);
+        is-read = zero-or-one h pixels marks taken;
+        good =
+            subst
+            (λ (x : Raster). rasterReading h pixels marks .good ≡ countGood (take (x .nol) (marksAfter h pixels marks)))
+            sheet
+            (good-counted h pixels marks taken);
         answer = (
           (λ e k l. line-is k l .status ∙ all-good .0 e k l),
           (λ e. all-good .1 (λ k l. sym (line-is k l .status) ∙ e k l)),

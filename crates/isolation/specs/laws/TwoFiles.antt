@@ -79,7 +79,7 @@ module _ (r : Raster) (g : List ℕ) (one : r .scn ≡ 1) (same-length : length 
   same-heads k q = rw (same-starts k) (same-head k q)
 
   -- a scanline has a body as long as before, so none where it had none
-  same-body-lengths : (k : ℕ) → length (bodyAt (withBytes r g) k) ≡ length (bodyAt r k)
+  pub same-body-lengths : (k : ℕ) → length (bodyAt (withBytes r g) k) ≡ length (bodyAt r k)
   same-body-lengths k = go (reached r k) refl
     where
       go : (t : Bool) → reached r k ≡ t → length (bodyAt (withBytes r g) k) ≡ length (bodyAt r k)

@@ -18,7 +18,7 @@ pub two-calls : (f pixels₁ marks₁ : List ℕ) (r₁ : RasterAnswer) (pixels�
     → sheetOf f .scn ≡ 1
     → rasterRejection f (length pixels₁) (length marks₁) ≡ 0
     → ChangedInBodies f g
-    → Isolated f g (length pixels₂) (length marks₂) (rasterNumbers r₁) pixels₁′ marks₁′ (rasterNumbers r₂) pixels₂′ marks₂′
+    → Isolated f g pixels₂ marks₂ (rasterNumbers r₁) pixels₁′ marks₁′ (rasterNumbers r₂) pixels₂′ marks₂′
 two-calls f pixels₁ marks₁ r₁ pixels₁′ marks₁′ g pixels₂ marks₂ r₂ pixels₂′ marks₂′ a b one taken changed =
     rw (a .answer, a .pixels-are, a .marks-are, b .answer, b .pixels-are, b .marks-are)
     (isolated f g pixels₁ marks₁ pixels₂ marks₂ one taken changed)
