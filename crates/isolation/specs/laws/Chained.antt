@@ -15,7 +15,7 @@ use Rattle.isolation.specs.laws.Headed.{usedOf, used-body}
 use borrow.Author.Tests.{ltb-true, ltb-false}
 
 -- a scanline reached and not lost, as the next one's being reached says
-both : (a b : Bool) → (a && not b) ≡ true → (a ≡ true) × (b ≡ false)
+pub both : (a b : Bool) → (a && not b) ≡ true → (a ≡ true) × (b ≡ false)
 both true false h = (refl, refl)
 both true true h = (refl, sym h)
 both false b h = absurd (false≢true h)
