@@ -14,8 +14,8 @@ pub record SameUpTo (n : ℕ) (f g : List ℕ) : Type 0 where
   pub long : n ≤ length g
   pub same : (i : ℕ) → i < n → getD g i 0 ≡ getD f i 0
 
--- Every scanline of f is whole: none is lost, so that the end is the byte after the last one. Where one is lost the end is its first
--- byte: the bytes from there on are its own, and more of them may complete it.
+-- No scanline of f is lost, so that the end is the byte after the last one. Where one is lost the end is its first byte: the
+-- bytes from there on are its own, and more of them may complete it.
 abbrev pub NoneLost : List ℕ → Type 0
 NoneLost f = reached (sheetOf f) (sheetOf f .nol) ≡ true
 

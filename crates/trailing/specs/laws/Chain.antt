@@ -1,11 +1,11 @@
 -- The first k scanlines, none of them lost, are settled by the bytes before the next one.
 use Prim.Native.Nat.{ℕ, zero, suc, _+_, _≤_}
 use mathlib.Core.Path.{_≡_, refl, sym, _∙_, ap}
-use mathlib.Core.Bool.{Bool, true, false, not, _&&_}
+use mathlib.Core.Bool.{true, false, not, _&&_}
 use mathlib.Core.List.{List, [], _∷_, _++_}
 use native.Mathlib.Omega.{arith}
 use lib.ListN.{length, take, drop}
-use Rattle.layout.specs.Scanline.{Step, Reading, readingOf}
+use Rattle.layout.specs.Scanline.{readingOf}
 use Rattle.layout.specs.Chain.{Raster, from, stepAt, start, reached, numberOf, readingAt, rows, statuses, oneIfGood, goodCount}
 use Rattle.layout.specs.laws.Chain.{start-zero, start-suc, reached-zero, reached-suc, reading-reached, start-within}
 use Rattle.isolation.specs.laws.OneFile.{withBytes}

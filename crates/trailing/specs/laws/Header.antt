@@ -1,7 +1,7 @@
 -- A file that is not rejected and one with the same bytes below the raster data: the second has the same header and the same
 -- colors, and is not rejected either.
 use Prim.Native.Nat.{ℕ, _+_, _-_, _*_, _≤_, _<_}
-use mathlib.Core.Path.{_≡_, refl, sym, _∙_, ap}
+use mathlib.Core.Path.{_≡_, refl, _∙_, ap}
 use mathlib.Core.Bool.{Bool, true, false, cond}
 use mathlib.Core.List.{List, _++_}
 use native.Mathlib.Omega.{arith}
@@ -10,19 +10,18 @@ use lib.Dec.{eqb, ltb}
 use borrow.Author.Tests.{le-ltb, ltb-false, eqb-true, eqb-false}
 use Rattle.units.specs.declared.Bytes.{Bytes}
 use Rattle.units.specs.Counts.{bytesOfBlocks, bytesIn}
-use Rattle.units.specs.LittleEndian.{byteAt, u16At}
-use Rattle.units.specs.Rules.{Rule, first}
+use Rattle.units.specs.LittleEndian.{byteAt}
+use Rattle.units.specs.Rules.{first}
 use Rattle.units.specs.laws.Rules.{none-holds, both-none, first-later}
 use Rattle.fields.specs.declared.Fields.{Fields}
 use Rattle.fields.specs.Fields.{fieldsOf, headerBlocks}
-use Rattle.header.specs.Rejections.{entryStart, slotAt, frameRules, fieldRules, colorTableRules, rulesTo22, rejectionTo22}
+use Rattle.header.specs.Rejections.{entryStart, slotAt, frameRules, fieldRules, colorTableRules, rejectionTo22}
 use Rattle.header.specs.Reading.{fieldNumbers, headerReading}
 use Rattle.header.specs.laws.Accepted.{Accepted, accepted}
-use Rattle.color.specs.Color.{ColorNumbers, scaled, color, noColor, grayColor, igdsColor, entryColor, environColor, tableColor, colorReading}
+use Rattle.color.specs.Color.{scaled, color, noColor, grayColor, igdsColor, entryColor, environColor, tableColor, colorReading}
 use Rattle.layout.specs.Chain.{sheetOf}
 use Rattle.isolation.specs.laws.Same.{same-u16, same-scan}
 use Rattle.isolation.specs.laws.Headers.{same-fields, same-slot, rules-but-length}
-use Rattle.trailing.specs.Statement.{SameUpTo}
 
 -- the rules that look at the length, where another length is as good
 frame-holds : (h : Fields) (size other : Bytes) → first (frameRules size h) ≡ 0
@@ -39,7 +38,7 @@ frame-holds h size other e short long inside =
       n .1 .1 .1 .1 .1 .1 .0,
     )
 
-module _ (f g : List ℕ) (ok : rejectionTo22 f ≡ 0) (front : SameUpTo (sheetOf f .dataStart) f g) where
+module _ (f g : List ℕ) (ok : rejectionTo22 f ≡ 0) (same : (i : ℕ) → i < sheetOf f .dataStart → getD g i 0 ≡ getD f i 0) where
   a : Accepted f
   a = accepted f ok
 
@@ -47,17 +46,17 @@ module _ (f g : List ℕ) (ok : rejectionTo22 f ≡ 0) (front : SameUpTo (sheetO
   deep = omega (arith, a .blocks)
 
   pub same-header : fieldsOf g ≡ fieldsOf f
-  same-header = same-fields g f (sheetOf f .dataStart) (front .same) deep
+  same-header = same-fields g f (sheetOf f .dataStart) same deep
 
-  pub also-accepted : length g ≤ 2147483647 → rejectionTo22 g ≡ 0
+  pub also-accepted : sheetOf f .dataStart ≤ length g → length g ≤ 2147483647 → rejectionTo22 g ≡ 0
   unfolding rejectionTo22
-  also-accepted short =
+  also-accepted inside short =
       let h = fieldsOf f in
       let rest = fieldRules h ++ colorTableRules f h in
       let parts = both-none (frameRules (bytesIn f) h) rest tt ok in
-      let long : 1024 ≤ length g = omega (arith, deep, front .long) in
-      ap first (rules-but-length g f (sheetOf f .dataStart) (front .same) deep (a .entries))
-      ∙ first-later (frameRules (bytesIn g) h) rest tt (frame-holds h (bytesIn f) (bytesIn g) (parts .0) short long (front .long))
+      let long : 1024 ≤ length g = omega (arith, deep) in
+      ap first (rules-but-length g f (sheetOf f .dataStart) same deep (a .entries))
+      ∙ first-later (frameRules (bytesIn g) h) rest tt (frame-holds h (bytesIn f) (bytesIn g) (parts .0) short long inside)
       ∙ parts .1
 
   pub same-reading : rejectionTo22 g ≡ 0 → headerReading g ≡ headerReading f
@@ -74,16 +73,16 @@ module _ (f g : List ℕ) (ok : rejectionTo22 f ≡ 0) (front : SameUpTo (sheetO
       go false e =
           let l : v ≤ 255 = ltb-false 255 v e in
           let b = a .igds one in
-          rw (front .same (768 + 3 * v) (omega arith), front .same (768 + 3 * v + 1) (omega arith), front .same (768 + 3 * v + 2) (omega arith))
+          rw (same (768 + 3 * v) (omega arith), same (768 + 3 * v + 1) (omega arith), same (768 + 3 * v + 2) (omega arith))
 
   same-environ : fieldsOf f .ctv ≡ 2 → (v : ℕ) → environColor g (fieldsOf f .cte) v ≡ environColor f (fieldsOf f .cte) v
   same-environ two v =
       let n = fieldsOf f .cte in
-      let word = same-u16 g f (sheetOf f .dataStart) (front .same) in
+      let word = same-u16 g f (sheetOf f .dataStart) same in
       let e = a .entries two in
       same-scan (λ i. eqb (slotAt g i) v) (λ i. eqb (slotAt f i) v) (entryColor g) (entryColor f) (noColor 25) 0 (n - 0)
       (λ i l u. (
-        rw (same-slot g f (sheetOf f .dataStart) (front .same) i n e (omega arith)),
+        rw (same-slot g f (sheetOf f .dataStart) same i n e (omega arith)),
         rw (word (entryStart i + 2) (omega arith), word (entryStart i + 4) (omega arith), word (entryStart i + 6) (omega arith)),
       ))
 

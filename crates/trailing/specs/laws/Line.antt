@@ -1,18 +1,17 @@
 -- One scanline that is not lost is settled by the bytes that it uses: its step and its reading are the same whatever follows them.
-use Prim.Native.Nat.{ℕ, _+_, _-_, _≤_}
+use Prim.Native.Nat.{ℕ, _+_, _≤_}
 use mathlib.Core.Path.{_≡_, refl, sym, _∙_, ap}
 use mathlib.Core.Bool.{Bool, true, false, cond, false≢true}
 use mathlib.Core.List.{List, [], _++_}
 use native.Mathlib.Omega.{arith}
-use lib.ListN.{length, take, drop, length-take, take-append-drop}
+use lib.ListN.{length, take, drop, take-append-drop}
 use lib.Dec.{eqb}
 use Rattle.units.specs.Counts.{bytesOfWords}
 use Rattle.units.specs.Rules.{first}
 use Rattle.codec.specs.declared.Extent.{Extent}
-use Rattle.codec.specs.Codec.{rowOf, fault}
-use Rattle.codec.specs.Table.{bodyPixels, bodyExtent}
+use Rattle.codec.specs.Table.{bodyExtent}
 use Rattle.codec.specs.laws.Lawful.{lawful}
-use Rattle.layout.specs.Scanline.{Step, Reading, headOf, bodyOf, following, bodySize, headRules, isLost, headedStep, openStep, stepOf, reading, headedReading, openReading, readingOf}
+use Rattle.layout.specs.Scanline.{headOf, bodyOf, following, bodySize, headRules, isLost, headedStep, openStep, stepOf, reading, headedReading, openReading, readingOf}
 use Rattle.layout.specs.laws.Line.{NotLost, kept}
 use Rattle.trailing.specs.laws.Front.{front-long, front-less, front-part}
 
