@@ -31,7 +31,7 @@ module _ (r : Raster) (g : List ℕ) where
     front-before k front = front-less g (r .bytes) (start r (suc k)) front (start r k) (omega (arith, start-suc r k))
 
     -- scanline k, which is reached and not lost
-    same-line : (k : ℕ) → take (start r (suc k)) g ≡ take (start r (suc k)) (r .bytes) → stepAt r (start r k) .lost ≡ false
+    pub same-line : (k : ℕ) → take (start r (suc k)) g ≡ take (start r (suc k)) (r .bytes) → stepAt r (start r k) .lost ≡ false
         → SameScanline (r .scn) (r .dataType) (r .ppl) (from r (start r k)) (drop (start r k) g)
     same-line k front kept =
         let s = start r k in
@@ -42,7 +42,8 @@ module _ (r : Raster) (g : List ℕ) where
         same-scanline (r .scn) (r .dataType) (r .ppl) (from r s) (drop s g) kept
         (front-part g (r .bytes) n front s (stepAt r s .used .0) (omega arith) l (omega arith))
 
-    line-reading : (k : ℕ) → reached r k ≡ true → SameScanline (r .scn) (r .dataType) (r .ppl) (from r (start r k)) (drop (start r k) g)
+    -- and has the same reading where those before it are the same
+    pub line-reading : (k : ℕ) → reached r k ≡ true → SameScanline (r .scn) (r .dataType) (r .ppl) (from r (start r k)) (drop (start r k) g)
         → SameLines k → readingAt (withBytes r g) k ≡ readingAt r k
     line-reading k q line c =
         reading-reached (withBytes r g) k (c .reaches)
@@ -78,10 +79,3 @@ module _ (r : Raster) (g : List ℕ) where
     same-lines (suc k) q front =
         let b = next-reached k q in
         same-next k (b .0) (b .1) (same-line k front (b .1)) (same-lines k (b .0) (front-before k front))
-
-    -- the reading of the last of them
-    pub same-reading : (k : ℕ) → reached r (suc k) ≡ true → take (start r (suc k)) g ≡ take (start r (suc k)) (r .bytes)
-        → readingAt (withBytes r g) k ≡ readingAt r k
-    same-reading k q front =
-        let b = next-reached k q in
-        line-reading k (b .0) (same-line k front (b .1)) (same-lines k (b .0) (front-before k front))

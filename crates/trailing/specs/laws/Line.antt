@@ -11,7 +11,7 @@ use Rattle.units.specs.Rules.{first}
 use Rattle.codec.specs.declared.Extent.{Extent}
 use Rattle.codec.specs.Table.{bodyExtent}
 use Rattle.codec.specs.laws.Lawful.{lawful}
-use Rattle.layout.specs.Scanline.{headOf, bodyOf, following, bodySize, headRules, isLost, headedStep, openStep, stepOf, reading, headedReading, openReading, readingOf}
+use Rattle.layout.specs.Scanline.{headOf, bodyOf, following, bodySize, headRules, isLost, headedStep, openStep, stepOf, headedReading, openReading, readingOf}
 use Rattle.layout.specs.laws.Line.{NotLost, kept}
 use Rattle.trailing.specs.laws.Front.{front-long, front-less, front-part}
 
@@ -30,7 +30,7 @@ pub record SameScanline (scn t p : ℕ) (a b : List ℕ) : Type 0 where
   pub step : stepOf scn t p b ≡ stepOf scn t p a
   pub reading : (number : ℕ) → readingOf scn t p number b ≡ readingOf scn t p number a
 
--- the bytes of a scanline with a header that is not lost: its header and its body
+-- with a header: the bytes of a scanline that is not lost, its header and its body
 abbrev size : List ℕ → ℕ
 size a = 4 + bytesOfWords (following (headOf a)) .0
 
@@ -56,6 +56,7 @@ module _ (a b : List ℕ) (k : NotLost a) (same : take (size a) b ≡ take (size
   same-headed : (t p number : ℕ) → (headedStep b ≡ headedStep a) × (headedReading t p number b ≡ headedReading t p number a)
   same-headed t p number = (rw (same-lost, same-head), rw (same-body, same-head))
 
+-- without
 same-open : (t p : ℕ) (a b : List ℕ) → bodyExtent t a p .lost ≡ false
     → take (bodyExtent t a p .used .0) b ≡ take (bodyExtent t a p .used .0) a
     → (openStep t p b ≡ openStep t p a) × (openReading t p b ≡ openReading t p a)
@@ -67,7 +68,7 @@ same-open t p a b h same =
 pub same-scanline : (scn t p : ℕ) (a b : List ℕ) → stepOf scn t p a .lost ≡ false
     → take (stepOf scn t p a .used .0) b ≡ take (stepOf scn t p a .used .0) a → SameScanline scn t p a b
 same-scanline scn t p a b h same =
-    record { step = both 0 .0; reading = λ number. both number .1 }
+    record { step = go (eqb scn 1) 0 h same .0; reading = λ number. go (eqb scn 1) number h same .1 }
   where
     go : (s : Bool) (number : ℕ) → cond s (headedStep a) (openStep t p a) .lost ≡ false
         → take (cond s (headedStep a) (openStep t p a) .used .0) b ≡ take (cond s (headedStep a) (openStep t p a) .used .0) a
@@ -75,6 +76,3 @@ same-scanline scn t p a b h same =
         × (cond s (headedReading t p number b) (openReading t p b) ≡ cond s (headedReading t p number a) (openReading t p a))
     go true number l e = same-headed a b (kept a l) (rw l at e) t p number
     go false number l e = same-open t p a b l (rw l at e)
-
-    both : (number : ℕ) → (stepOf scn t p b ≡ stepOf scn t p a) × (readingOf scn t p number b ≡ readingOf scn t p number a)
-    both number = go (eqb scn 1) number h same
