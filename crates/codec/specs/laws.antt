@@ -9,4 +9,5 @@ pub mod RoundTripRuns
 pub mod RoundTripWords
 pub mod RunReading
 pub mod RunWriting
+pub mod Settled
 pub mod Table

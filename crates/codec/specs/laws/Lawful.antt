@@ -23,6 +23,7 @@ use Rattle.codec.specs.Table.{noCodec, codecOf}
 use Rattle.codec.specs.laws.Table.{every}
 use Rattle.codec.specs.laws.RunReading.{length-runPixels, status-total, extent-within, extent-total}
 use Rattle.codec.specs.laws.PairReading.{length-pairPixels, pairs-fit, pairs-taken}
+use Rattle.codec.specs.laws.Settled.{Settled, bytes-settled, words-settled, runs-settled, pairs-settled}
 
 pub record Lawful (c : Codec) : Type 0 where
   -- a body with the status 0 has as many pixels as the row
@@ -30,6 +31,8 @@ pub record Lawful (c : Codec) : Type 0 where
   -- without a header: what is not lost is there, and what is good gives a whole row
   pub within : (r : List ℕ) (p : ℕ) → c .extent r p .lost ≡ false → c .extent r p .used .0 ≤ length r
   pub taken-full : (r : List ℕ) (p : ℕ) → c .extent r p .status ≡ 0 → length (c .pixels (take (c .extent r p .used .0) r) p) ≡ p
+  -- and what does not run past the file is settled, whatever follows
+  pub settled : (r : List ℕ) (p : ℕ) → (c .extent r p ≡ fault 1 → ⊥) → Settled (λ s. c .extent s p) r
 
 -- a table of one test without a fault
 one-test : (over : Bool) (n : ℕ) → cond over (fault 1) (taken n) .status ≡ 0 → over ≡ false
@@ -58,6 +61,7 @@ bytes =
           let e : ltb (length r) p ≡ false = one-test (ltb (length r) p) p h in
           let n : p ≤ length r = ltb-false (length r) p e in
           rw e (length-take-le p (take p r) (omega (arith, length-take-le p r n)));
+      settled = bytes-settled;
     }
 
 word-pixels : Lawful wordCodec
@@ -78,6 +82,7 @@ word-pixels =
           let e : ltb (wordCount r .0) p ≡ false = one-test (ltb (wordCount r .0) p) (wordBytes p) h in
           let n : p ≤ wordCount r .0 = ltb-false (wordCount r .0) p e in
           rw e (ap length (words-taken r p) ∙ length-take-le p (words r) (omega (arith, length-words r)));
+      settled = words-settled;
     }
 
 -- runs and pairs, by the tests in their order
@@ -101,6 +106,7 @@ runs =
       within = λ r p h. extent-within r p (runExtent r p) refl (runs-good 0 p (words r) 0 h);
       taken-full =
           λ r p h. length-runPixels 0 (words (take (runExtent r p .used .0) r)) ∙ extent-total r p (runExtent r p) refl h;
+      settled = runs-settled;
     }
 
 pairs-good : (left : ℕ) (ws : List ℕ) (used : ℕ) → pairsFrom left ws used .lost ≡ false → pairsFrom left ws used .status ≡ 0
@@ -119,6 +125,7 @@ pairs =
       taken-full =
           λ r p h.
           length-pairPixels (words (take (pairExtent r p .used .0) r)) ∙ pairs-taken r p (pairExtent r p) refl h .1;
+      settled = pairs-settled;
     }
 
 none : Lawful noCodec
@@ -127,6 +134,7 @@ none =
       full = λ b p h. absurd (omega arith);
       within = λ r p h. absurd (false≢true (sym h));
       taken-full = λ r p h. absurd (omega arith);
+      settled = λ r p h. record { size = 0; alike = λ rest. refl; all-taken = λ l. absurd (false≢true (sym l)) };
     }
 
 pub lawful : (t : ℕ) → Lawful (codecOf t)

@@ -15,10 +15,23 @@ use Rattle.isolation.specs.laws.Headed.{usedOf, used-body}
 use borrow.Author.Tests.{ltb-true, ltb-false}
 
 -- a scanline reached and not lost, as the next one's being reached says
-both : (a b : Bool) → (a && not b) ≡ true → (a ≡ true) × (b ≡ false)
+pub both : (a b : Bool) → (a && not b) ≡ true → (a ≡ true) × (b ≡ false)
 both true false h = (refl, refl)
 both true true h = (refl, sym h)
 both false b h = absurd (false≢true h)
+
+-- scanlines start one after the other
+module _ (r : Raster) where
+  start-grows : (k : ℕ) → start r k ≤ start r (suc k)
+  start-grows k = omega (arith, start-suc r k)
+
+  pub start-later : (j k : ℕ) → j ≤ k → start r j ≤ start r k
+  start-later j zero h = rw (let z : j ≡ 0 = omega arith in z) (omega arith)
+  start-later j (suc k) h =
+      elim (below-next j (suc k) (omega arith)) [
+        | inl l ↦ omega (arith, start-later j k (omega arith), start-grows k)
+        | inr e ↦ rw e (omega arith)
+      ]
 
 module _ (r : Raster) (one : r .scn ≡ 1) where
   pub start-next : (k : ℕ) → start r (suc k) ≡ start r k + usedOf (from r (start r k))
@@ -31,25 +44,13 @@ module _ (r : Raster) (one : r .scn ≡ 1) where
   unfolding readingAt
   reading-own k e = rw (e, one)
 
-  -- scanlines start one after the other
-  start-grows : (k : ℕ) → start r k ≤ start r (suc k)
-  start-grows k = omega (arith, start-suc r k)
-
-  pub start-later : (j k : ℕ) → j ≤ k → start r j ≤ start r k
-  start-later j zero h = rw (let z : j ≡ 0 = omega arith in z) (omega arith)
-  start-later j (suc k) h =
-      elim (below-next j (suc k) (omega arith)) [
-        | inl l ↦ omega (arith, start-later j k (omega arith), start-grows k)
-        | inr e ↦ rw e (omega arith)
-      ]
-
-  -- and the bodies of those before a reached one end where it starts, or before
+  -- the bodies of those before a reached one end where it starts, or before
   pub body-before : (j k : ℕ) → j < k → reached r k ≡ true → start r j + 8 + length (bodyAt r j) ≤ start r k
   body-before j zero h q = absurd (omega arith)
   body-before j (suc k) h q =
       let b = both (reached r k) (isLost (from r (start r k))) (sym (reached-next k) ∙ q) in
       elim (below-next j k h) [
-        | inl l ↦ omega (arith, body-before j k l (b .0), start-grows k)
+        | inl l ↦ omega (arith, body-before j k l (b .0), start-grows r k)
         | inr e ↦ rw (e, b .0) (omega (arith, start-next k, used-body (from r (start r k)) (b .1)))
       ]
 
@@ -59,8 +60,8 @@ module _ (r : Raster) (one : r .scn ≡ 1) where
     where
       go : (t : Bool) → ltb (b .k) k ≡ t → ⊥
       go true e = omega (arith, body-before (b .k) k (ltb-true (b .k) k e) q)
-      go false e = omega (arith, start-later k (b .k) (ltb-false (b .k) k e))
+      go false e = omega (arith, start-later r k (b .k) (ltb-false (b .k) k e))
 
   -- nor does a byte before the raster data
   pub data-outside : (i : ℕ) → i < r .dataStart → InBody r i → ⊥
-  data-outside i h b = omega (arith, start-zero r, start-later 0 (b .k) (omega arith))
+  data-outside i h b = omega (arith, start-zero r, start-later r 0 (b .k) (omega arith))

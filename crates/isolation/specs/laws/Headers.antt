@@ -9,8 +9,7 @@ use lib.Dec.{eqb}
 use borrow.Author.Tests.{eqb-true}
 use Rattle.fields.specs.declared.Fields.{Fields}
 use Rattle.fields.specs.Fields.{fieldsOf}
-use Rattle.header.specs.Rejections.{slotAt, entryStart, slotOccurs, sharesSlot, frameRules, colorTableRules, rulesTo22}
-use Rattle.limits.specs.Limits.{limitRules}
+use Rattle.header.specs.Rejections.{slotAt, entryStart, slotOccurs, sharesSlot, frameRules, fieldRules, colorTableRules, rulesTo22}
 use Rattle.units.specs.Counts.{bytesIn}
 use Rattle.isolation.specs.laws.Same.{same-u16, same-u32, same-scan}
 
@@ -38,27 +37,29 @@ module _ (g f : List ℕ) (n : ℕ) (same : (i : ℕ) → i < n → getD g i 0 �
         cte = d 536 (omega arith) i;
       }
 
-  same-slot : (j m : ℕ) → entryStart m ≤ n → j < m → slotAt g j ≡ slotAt f j
+  pub same-slot : (j m : ℕ) → entryStart m ≤ n → j < m → slotAt g j ≡ slotAt f j
   same-slot j m h l = same-u16 g f n same (entryStart j) (omega arith)
 
   same-occurs : (slot i m : ℕ) → entryStart m ≤ n → slotOccurs g slot i m ≡ slotOccurs f slot i m
   unfolding slotOccurs
   same-occurs slot i m h =
-      same-scan (λ j. eqb (slotAt g j) slot) (λ j. eqb (slotAt f j) slot) (λ j. true) false i (m - i)
-      (λ j l u. rw (same-slot j m h (omega arith)))
+      same-scan (λ j. eqb (slotAt g j) slot) (λ j. eqb (slotAt f j) slot) (λ j. true) (λ j. true) false i (m - i)
+      (λ j l u. (rw (same-slot j m h (omega arith)), refl))
 
   same-shares : (m : ℕ) → entryStart m ≤ n → sharesSlot g m ≡ sharesSlot f m
   unfolding sharesSlot
   same-shares m h =
-      same-scan (λ i. slotOccurs g (slotAt g i) (i + 1) m) (λ i. slotOccurs f (slotAt f i) (i + 1) m) (λ i. true) false 0 (m - 0)
-      (λ j l u. rw (same-slot j m h (omega arith), same-occurs (slotAt f j) (j + 1) m h))
+      same-scan (λ i. slotOccurs g (slotAt g i) (i + 1) m) (λ i. slotOccurs f (slotAt f i) (i + 1) m) (λ i. true) (λ i. true) false 0 (m - 0)
+      (λ j l u. (rw (same-slot j m h (omega arith), same-occurs (slotAt f j) (j + 1) m h), refl))
+
+  -- but for the length, which the frame's rules look at
+  pub rules-but-length : 1024 ≤ n → (fieldsOf f .ctv ≡ 2 → entryStart (fieldsOf f .cte) ≤ n)
+      → rulesTo22 g ≡ frameRules (bytesIn g) (fieldsOf f) ++ (fieldRules (fieldsOf f) ++ colorTableRules f (fieldsOf f))
+  rules-but-length h entries =
+      ap (λ (x : Fields). frameRules (bytesIn g) x ++ (fieldRules x ++ colorTableRules g x)) (same-fields h) ∙
+      rw (same-and (eqb (fieldsOf f .ctv) 2) (sharesSlot g (fieldsOf f .cte)) (sharesSlot f (fieldsOf f .cte))
+      (λ t. same-shares (fieldsOf f .cte) (entries (eqb-true (fieldsOf f .ctv) 2 t))))
 
   pub same-rules : 1024 ≤ n → (fieldsOf f .ctv ≡ 2 → entryStart (fieldsOf f .cte) ≤ n) → length g ≡ length f
       → rulesTo22 g ≡ rulesTo22 f
-  same-rules h entries e =
-      ap (λ (x : Fields). frameRules (bytesIn g) x ++ (limitRules (x .dtc) (x .slo) (x .scn) (x .ppl) (x .nol) ++ colorTableRules g x)) (same-fields h) ∙
-      rw (
-        e,
-        same-and (eqb (fieldsOf f .ctv) 2) (sharesSlot g (fieldsOf f .cte)) (sharesSlot f (fieldsOf f .cte))
-            (λ t. same-shares (fieldsOf f .cte) (entries (eqb-true (fieldsOf f .ctv) 2 t))),
-      )
+  same-rules h entries e = rules-but-length h entries ∙ rw e

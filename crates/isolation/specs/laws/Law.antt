@@ -14,7 +14,7 @@ use Rattle.isolation.specs.Statement.{ChangedInBodies, LineIs, SameLine,
 use Rattle.isolation.specs.laws.OneFile.{withBytes, line-is, one-reading, pixels-room, marks-room}
 use Rattle.isolation.specs.laws.TwoFiles.{same-sheet, rejection-is, same-starts, same-reaches, same-readings, also-none}
 
-accepted-file : (f : List ℕ) (room lines : ℕ) → rasterRejection f room lines ≡ 0 → rejectionTo22 f ≡ 0
+pub accepted-file : (f : List ℕ) (room lines : ℕ) → rasterRejection f room lines ≡ 0 → rejectionTo22 f ≡ 0
 unfolding rasterRejection rejectionTo22
 accepted-file f room lines h = both-none (rulesTo22 f) (bufferRules (sheetOf f .ppl) (sheetOf f .nol) room lines) tt h .0
 

@@ -43,15 +43,15 @@ module _ (r : Raster) (h : List ℕ) (one : r .scn ≡ 1) (same-reached : (k : �
 
 -- the answer and the buffers of a file that is not rejected, by its raster
 module _ (h pixels marks : List ℕ) (taken : rasterRejection h (length pixels) (length marks) ≡ 0) where
-  pixels-are : pixelsAfter h pixels marks ≡ rows (sheetOf h) (sheetOf h .nol) ++ drop (sheetOf h .nol * sheetOf h .ppl) pixels
+  pub pixels-are : pixelsAfter h pixels marks ≡ rows (sheetOf h) (sheetOf h .nol) ++ drop (sheetOf h .nol * sheetOf h .ppl) pixels
   unfolding pixelsAfter
   pixels-are = rw taken
 
-  marks-are : marksAfter h pixels marks ≡ statuses (sheetOf h) (sheetOf h .nol) ++ drop (sheetOf h .nol) marks
+  pub marks-are : marksAfter h pixels marks ≡ statuses (sheetOf h) (sheetOf h .nol) ++ drop (sheetOf h .nol) marks
   unfolding marksAfter
   marks-are = rw taken
 
-  answer-is : rasterReading h pixels marks ≡ readNumbers (sheetOf h)
+  pub answer-is : rasterReading h pixels marks ≡ readNumbers (sheetOf h)
   unfolding rasterReading
   answer-is = rw taken
 

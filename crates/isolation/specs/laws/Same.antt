@@ -30,10 +30,11 @@ module _ (a b : List ℕ) (n : ℕ) (same : (i : ℕ) → i < n → getD a i 0 �
   unfolding u32At
   same-u32 at h = rw (same-u16 at (omega arith), same-u16 (at + 2) (omega arith))
 
--- scans over the same hits
-pub same-scan : {A : Type 0} (hit other : ℕ → Bool) (answer : ℕ → A) (none : A) (i k : ℕ)
-    → ((j : ℕ) → i ≤ j → j < i + k → hit j ≡ other j) → scan hit answer none i k ≡ scan other answer none i k
+-- scans over the same hits with the same answers
+pub same-scan : {A : Type 0} (hit other : ℕ → Bool) (answer reply : ℕ → A) (none : A) (i k : ℕ)
+    → ((j : ℕ) → i ≤ j → j < i + k → (hit j ≡ other j) × (answer j ≡ reply j)) → scan hit answer none i k ≡ scan other reply none i k
 unfolding scan
-same-scan hit other answer none i zero h = refl
-same-scan hit other answer none i (suc k) h =
-    rw (h i (omega arith) (omega arith), same-scan hit other answer none (suc i) k (λ j l u. h j (omega arith) (omega arith)))
+same-scan hit other answer reply none i zero h = refl
+same-scan hit other answer reply none i (suc k) h =
+    let here = h i (omega arith) (omega arith) in
+    rw (here .0, here .1, same-scan hit other answer reply none (suc i) k (λ j l u. h j (omega arith) (omega arith)))

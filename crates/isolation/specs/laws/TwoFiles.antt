@@ -99,6 +99,11 @@ module _ (r : Raster) (g : List ℕ) (one : r .scn ≡ 1) (same-length : length 
       go true q = reading-is r g one same-reaches k q ∙ rw (same-heads k q, b) (sym (reading-own r one k q))
       go false q = no-reading r g one same-reaches k q ∙ sym (reading-unreached r k q)
 
+-- a file with the same fields has the same sheet but for its bytes
+pub sheet-by-fields : (f g : List ℕ) → fieldsOf g ≡ fieldsOf f → sheetOf g ≡ withBytes (sheetOf f) g
+sheet-by-fields f g e =
+    ap (λ (x : Fields). record { bytes = g; dataStart = bytesOfBlocks (headerBlocks x) .0; scn = x .scn; dataType = x .dtc; ppl = x .ppl; nol = x .nol }) e
+
 -- Two files of which the first is not rejected: the second has the same header, and so the same sheet but for its bytes.
 module _ (f g : List ℕ) (one : sheetOf f .scn ≡ 1) (ok : rejectionTo22 f ≡ 0) (changed : ChangedInBodies f g) where
   same-header : (i : ℕ) → i < sheetOf f .dataStart → getD g i 0 ≡ getD f i 0
@@ -111,8 +116,7 @@ module _ (f g : List ℕ) (one : sheetOf f .scn ≡ 1) (ok : rejectionTo22 f ≡
   fields = same-fields g f (sheetOf f .dataStart) same-header deep
 
   pub same-sheet : sheetOf g ≡ withBytes (sheetOf f) g
-  same-sheet =
-      ap (λ (x : Fields). record { bytes = g; dataStart = bytesOfBlocks (headerBlocks x) .0; scn = x .scn; dataType = x .dtc; ppl = x .ppl; nol = x .nol }) fields
+  same-sheet = sheet-by-fields f g fields
 
   -- the second reading is rejected only for its buffers
   pub rejection-is : (room lines : ℕ) → rasterRejection g room lines ≡ first (bufferRules (sheetOf f .ppl) (sheetOf f .nol) room lines)

@@ -1,0 +1,5 @@
+pub mod Chain
+pub mod Front
+pub mod Header
+pub mod Law
+pub mod Line
