@@ -10,3 +10,4 @@ pub mod RoundTripWords
 pub mod RunReading
 pub mod RunWriting
 pub mod Table
+pub mod ZeroRuns
