@@ -5,4 +5,5 @@ pub mod RunPixels
 pub mod PairPixels
 pub mod Leading
 pub mod Table
+pub mod ZeroRuns
 pub mod laws

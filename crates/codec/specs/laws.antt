@@ -11,3 +11,4 @@ pub mod RunReading
 pub mod RunWriting
 pub mod Settled
 pub mod Table
+pub mod ZeroRuns

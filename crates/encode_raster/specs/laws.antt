@@ -6,4 +6,5 @@ pub mod Line
 pub mod Lines
 pub mod Measuring
 pub mod Plan
+pub mod Positions
 pub mod Whole

@@ -4,6 +4,8 @@
 ghost use mathlib.Core.Path.{_≡_};
 ghost use Prim.Native.Nat.{_*_, _≤_};
 ghost use lib.ListN.{length};
+ghost use Rattle.layout.specs.Reading.{rejectedRaster};
+ghost use Rattle.decode_raster.specs.Answer.{rasterNumbers};
 ghost use Rattle.encode_raster.specs.Answer.{picture};
 ghost use Rattle.encode_raster.specs.Writing.{writerRejection};
 ghost use Rattle.round_trip.specs.Call.{BothCalls, GivenBack};
@@ -12,7 +14,8 @@ use decode_raster::read_raster;
 use encode_raster::WriteAnswer;
 use encode_raster::write_raster;
 
-// What the writer answered, and the reader where the writer did not reject the picture: else zeros.
+// What the writer answered, and the reader. Where the writer rejected the picture nothing was read, and the reader's answer is the
+// writer's number, so that it is not taken for a reading.
 pub struct RoundTrip {
     pub written: WriteAnswer,
     pub read: RasterAnswer,
@@ -38,16 +41,21 @@ pub fn write_and_read(
 {
     let written = write_raster(dtc, ppl, nol, slo, scn, drs, table, pixels, out);
     if written.number != 0 {
-        return RoundTrip {
-            written,
-            read: RasterAnswer {
-                answer: 0,
-                good: 0,
-                end: 0,
-            },
-        };
+        let read = unread(written.number);
+        return RoundTrip { written, read };
     }
     let size = written.size.0;
     let read = read_raster(&out[..size], back, marks);
     RoundTrip { written, read }
+}
+
+// The reader's answer where nothing was read: that of a reading rejected with this number.
+fn unread(number: u16) -> RasterAnswer
+    ensures { λ r. ⌜ rasterNumbers r ≡ rejectedRaster number ⌝ }
+{
+    RasterAnswer {
+        answer: number as u32,
+        good: 0,
+        end: 0,
+    }
 }

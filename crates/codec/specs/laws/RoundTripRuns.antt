@@ -4,7 +4,7 @@ use mathlib.Core.Path.{_≡_, refl, sym, ap, _∙_}
 use mathlib.Core.Bool.{Bool, true, false, cond}
 use mathlib.Core.List.{List, [], _∷_, _++_, append-assoc, append-nil}
 use native.Mathlib.Omega.{arith}
-use borrow.Author.Tests.{le-ltb, eq-eqb, ne-eqb, leb-true, leb-false, eqb-true, eqb-false}
+use borrow.Author.Tests.{le-ltb, eq-eqb, ne-eqb, leb-false, eqb-true, eqb-false}
 use lib.ListN.{length, replicate, length-append, replicate-append-replicate}
 use lib.Dec.{eqb, leb}
 use Rattle.units.specs.Counts.{wordBytes}
@@ -13,28 +13,28 @@ use Rattle.codec.specs.RunPixels.{runPixels, runTotal, runsFrom, runExte
 use Rattle.codec.specs.Codec.{taken}
 use Rattle.codec.specs.laws.RunReading.{length-runPixels}
 use Rattle.units.specs.laws.Words.{words-before}
-use Rattle.codec.specs.laws.RoundTripWords.{AllBelow, all-append, both-used, all-used, one-more}
+use Rattle.codec.specs.laws.RoundTripWords.{AllBelow, both-used, all-used, one-more}
+use Rattle.codec.specs.laws.ZeroRuns.{Needed, row-needed}
 
 -- The pieces of a run of n pixels: it is one word, or a full piece, a run of 0 of the other level, and the pieces of what is left.
 data Pieces : ℕ → List ℕ → Type 0 where
-  whole : {n : ℕ} → n < 65536 → Pieces n (n ∷ [])
-  more : {n k m : ℕ} {ws : List ℕ} → n ≡ k + m → 0 < m → k < 65536 → Pieces m ws → Pieces n (k ∷ (0 ∷ ws))
+  whole : {n : ℕ} → Pieces n (n ∷ [])
+  more : {n k m : ℕ} {ws : List ℕ} → n ≡ k + m → 0 < m → Pieces m ws → Pieces n (k ∷ (0 ∷ ws))
 
 pieces-step : (n : ℕ) (rest : List ℕ) (short : Bool) → leb n 32767 ≡ short → (32767 < n → Pieces (n - 32767) rest)
     → Pieces n (cond short (n ∷ []) (32767 ∷ (0 ∷ rest)))
-pieces-step n rest true e ih = let h : n ≤ 32767 = leb-true n 32767 e in whole {n = n} (omega arith)
+pieces-step n rest true e ih = whole
 pieces-step n rest false e ih =
     let h : 32767 < n = leb-false n 32767 e in
-    more {n = n} {k = 32767} {m = n - 32767} (omega arith) (omega arith) (omega arith) (ih h)
+    more {n = n} {k = 32767} {m = n - 32767} (omega arith) (omega arith) (ih h)
 
-pieces : (most n : ℕ) → n ≤ 32767 * suc most → Pieces n (levelPieces most n)
+pieces : (most n : ℕ) → Pieces n (levelPieces most n)
 unfolding levelPieces
-pieces zero n h = whole {n = n} (omega arith)
-pieces (suc most) n h =
-    pieces-step n (levelPieces most (n - 32767)) (leb n 32767) refl (λ g. pieces most (n - 32767) (omega arith))
+pieces zero n = whole
+pieces (suc most) n = pieces-step n (levelPieces most (n - 32767)) (leb n 32767) refl (λ g. pieces most (n - 32767))
 
 run-pieces : (n : ℕ) → Pieces n (levelPieces n n)
-run-pieces n = pieces n n (omega arith)
+run-pieces n = pieces n n
 
 -- The runs of a row of 0 and 1 from a run of level v on, which holds n pixels so far.
 data Turns : ℕ → ℕ → List ℕ → List ℕ → Type 0 where
@@ -69,8 +69,8 @@ turns v n (x ∷ row) h b =
 pieces-pixels : {n : ℕ} {ws : List ℕ} → Pieces n ws → (v : ℕ) (r : List ℕ) → v ≤ 1
     → runPixels v (ws ++ r) ≡ replicate n v ++ runPixels (1 - v) r
 unfolding runPixels
-pieces-pixels (whole l) v r h = refl
-pieces-pixels (more {n = n} {k = k} {m = m} {ws = ws} e z l p) v r h =
+pieces-pixels whole v r h = refl
+pieces-pixels (more {n = n} {k = k} {m = m} {ws = ws} e z p) v r h =
     let f : 1 - (1 - v) ≡ v = omega arith in
     rw (f, pieces-pixels p v r h, e, ← replicate-append-replicate k m v, append-assoc)
 
@@ -84,8 +84,8 @@ turns-pixels (turn {v = v} {w = w} {n = n} {row = row} {runs = runs} h e t) =
 
 -- an odd number of words
 pieces-odd : {n : ℕ} {ws : List ℕ} → Pieces n ws → length ws % 2 ≡ 1
-pieces-odd (whole l) = refl
-pieces-odd (more e z l p) = omega (arith, pieces-odd p)
+pieces-odd whole = refl
+pieces-odd (more e z p) = omega (arith, pieces-odd p)
 
 cut-odd : (runs : List ℕ) → length (cutLevels runs) % 2 ≡ length runs % 2
 unfolding cutLevels
@@ -98,16 +98,6 @@ turns-odd ends-off = refl
 turns-odd ends-on = refl
 turns-odd (same t) = turns-odd t
 turns-odd (turn h e t) = omega (arith, turns-odd t)
-
--- each below 65,536
-pieces-below : {n : ℕ} {ws : List ℕ} → Pieces n ws → AllBelow 65536 ws
-pieces-below (whole l) = (l, tt)
-pieces-below (more e z l p) = (l, (omega arith, pieces-below p))
-
-cut-below : (runs : List ℕ) → AllBelow 65536 (cutLevels runs)
-unfolding cutLevels
-cut-below [] = tt
-cut-below (n ∷ runs) = all-append 65536 (levelPieces n n) (cutLevels runs) (pieces-below (run-pieces n)) (cut-below runs)
 
 -- Without headers: a run that is not the last is passed, and the line ends after the last one.
 run-passed : (v left n : ℕ) (ws : List ℕ) (used : ℕ) → n ≤ left → (v ≡ 0 → left ≡ n → ⊥)
@@ -122,8 +112,8 @@ run-ends n ws used = rw (le-ltb n n (omega arith), eq-eqb n n refl)
 
 pieces-passed : {n : ℕ} {ws : List ℕ} → Pieces n ws → (v left : ℕ) (r : List ℕ) (used : ℕ) → v ≤ 1 → n ≤ left → (v ≡ 0 → left ≡ n → ⊥)
     → runsFrom v left (ws ++ r) used ≡ runsFrom (1 - v) (left - n) r (used + wordBytes (length ws))
-pieces-passed (whole {n = n} l) v left r used h g d = run-passed v left n r used g d
-pieces-passed (more {n = n} {k = k} {m = m} {ws = ws} e z l p) v left r used h g d =
+pieces-passed (whole {n = n}) v left r used h g d = run-passed v left n r used g d
+pieces-passed (more {n = n} {k = k} {m = m} {ws = ws} e z p) v left r used h g d =
     let f : 1 - (1 - v) ≡ v = omega arith in
     let i : left - k - 0 ≡ left - k = omega arith in
     let j : left - k - m ≡ left - n = omega arith in
@@ -134,8 +124,8 @@ pieces-passed (more {n = n} {k = k} {m = m} {ws = ws} e z l p) v left r used h g
 
 pieces-end : {n : ℕ} {ws : List ℕ} → Pieces n ws → (r : List ℕ) (used : ℕ)
     → runsFrom 0 n (ws ++ r) used ≡ taken (used + wordBytes (length ws))
-pieces-end (whole {n = n} l) r used = run-ends n r used
-pieces-end (more {n = n} {k = k} {m = m} {ws = ws} e z l p) r used =
+pieces-end (whole {n = n}) r used = run-ends n r used
+pieces-end (more {n = n} {k = k} {m = m} {ws = ws} e z p) r used =
     let j : n - k - 0 ≡ m = omega arith in
     let u : used + 2 + 2 + 2 * length ws ≡ used + 2 * suc (suc (length ws)) = omega arith in
     run-passed 0 n k (0 ∷ (ws ++ r)) used (omega arith) (λ a b. omega arith)
@@ -180,5 +170,10 @@ module _ (row : List ℕ) (levels : AllBelow 2 row) where
       rw (words-before (runWords row) rest)
       (turns-taken its-turns (length row) (words rest) 0 (omega arith) ∙ all-used (runWords row))
 
+-- each word is below 65,536
+needed-below : (p : ℕ) (ws : List ℕ) → Needed p ws → AllBelow 65536 ws
+needed-below p [] c = tt
+needed-below p (w ∷ r) c = let l : w ≤ 32767 = c .0 in (omega arith, needed-below w r (c .1 .1))
+
 pub runs-below : (row : List ℕ) → AllBelow 65536 (runWords row)
-runs-below row = cut-below (levelRuns 0 0 row)
+runs-below row = needed-below 32767 (runWords row) (row-needed row)

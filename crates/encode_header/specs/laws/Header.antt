@@ -5,21 +5,22 @@ use mathlib.Core.List.{List, [], _∷_, _++_, append-assoc}
 use mathlib.Core.Path.{_≡_, refl, sym, ap, _∙_}
 use native.Mathlib.Nat.{div-div-eq-div-mul}
 use native.Mathlib.Omega.{arith}
-use lib.ListN.{length, take, drop, set, length-append, length-replicate, replicate-append-replicate}
-use lib.Seq.{sets, drop-at, length-take-le}
-use lib.Dec.{eqb, eqb·suc-zero}
+use lib.ListN.{length, take, drop, set, replicate-append-replicate}
+use lib.Seq.{sets, length-take-le}
+use lib.Dec.{eqb}
 use borrow.Author.Tests.{lt-ltb, le-ltb}
 use borrow.Rule.Slice.PartMut.{midOf, putMid}
 use Rattle.units.specs.Counts.{wordsOfBlocks}
 use Rattle.units.specs.LittleEndian.{u16Bytes, u32Bytes}
 use Rattle.units.specs.Over.{over, zeros}
 use Rattle.units.specs.Words.{twoBytes}
-use Rattle.units.specs.laws.Over.{sets-append, over-nil, over-fits}
+use Rattle.units.specs.laws.Over.{sets-append}
 use Rattle.units.specs.laws.Parts.{tail-is, put-tail}
 use Rattle.encode_header.specs.declared.Job.{Job}
 use Rattle.encode_header.specs.Picture.{Picture}
 use Rattle.encode_header.specs.Header.{ctvOf, blocksOf, tableArea, headerBytes, headerSize}
 use Rattle.encode_header.specs.Job.{pictureOf, headerOver}
+use Rattle.encode_header.specs.laws.Positions.{length-header, area-put}
 
 -- the two bytes of a number of 16 bits, and of the low half of one of 32
 pub high-byte : {v : ℕ} → v < 65536 → v / 256 % 256 ≡ v / 256
@@ -79,9 +80,6 @@ blocks-are table = go (eqb (length table) 0)
     go true = (omega arith, omega arith)
     go false = (omega arith, omega arith)
 
-pub length-header : (i : Picture) → length (headerBytes i) ≡ headerSize (i .table) .0
-length-header i = omega arith
-
 -- an output that is too short
 pub header-none : (j : Job) (table out : List ℕ) {size : ℕ} → size ≡ headerSize table .0 → length out < size
     → (size ≡ length (headerBytes (pictureOf j table))) × (out ≡ headerOver (pictureOf j table) out)
@@ -90,16 +88,6 @@ header-none j table out e l =
     let same = e ∙ sym (length-header (pictureOf j table)) in
     let short : length out < length h = omega (arith, same) in
     (same, ap (λ (b : Bool). cond b out (h ++ drop (length h) out)) (sym (lt-ltb (length out) (length h) short)))
-
--- the table put over zeros, as many as its area has
-area-put : (table rest : List ℕ) → over table (zeros (length (tableArea table)) ++ rest) ≡ tableArea table ++ rest
-area-put [] rest = over-nil (zeros 256 ++ rest)
-area-put (x ∷ table) rest =
-    let all = x ∷ table in
-    let z = zeros (length all) in
-    rw (eqb·suc-zero (length table))
-    (over-fits all (z ++ rest) (omega (arith, length-append z rest, length-replicate {A = ℕ} (length all) 0))
-    ∙ ap (λ (l : List ℕ). all ++ l) (drop-at z rest (length all) (length-replicate {A = ℕ} (length all) 0)))
 
 -- an output that is not: its first bytes are cleared, the table is put behind 768 of them, and the fields over those
 module _ (j : Job) (table out : List ℕ) {size : ℕ} (sized : size ≡ headerSize table .0) (room : size ≤ length out) where

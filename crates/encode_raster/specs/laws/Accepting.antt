@@ -20,7 +20,7 @@ use Rattle.encode_header.specs.Header.{tableArea, headerBytes, headerSize}
 use Rattle.encode_raster.specs.File.{lineBytes, linesOf, fileBytes}
 use Rattle.encode_raster.specs.Writing.{anyAbove, mostWords, anyLong, lengthRules, pictureRules}
 use Rattle.encode_header.specs.Job.{jobPicture}
-use Rattle.encode_header.specs.laws.Header.{length-header}
+use Rattle.encode_header.specs.laws.Positions.{length-header}
 use Rattle.encode_raster.specs.laws.Answer.{bare, planRules}
 
 pub record Limits (dtc ppl nol slo scn table pixels : ℕ) : Type 0 where

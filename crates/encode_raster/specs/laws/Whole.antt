@@ -19,7 +19,7 @@ use Rattle.encode_raster.specs.File.{linesOf, fileBytes}
 use Rattle.encode_raster.specs.Writing.{givenRules, pictureRules, writerRejection, writing, outAfter}
 use Rattle.encode_header.specs.Job.{jobPicture, pictureOf, headerOver}
 use Rattle.encode_raster.specs.Answer.{writeNumbers}
-use Rattle.encode_header.specs.laws.Header.{length-header}
+use Rattle.encode_header.specs.laws.Positions.{length-header}
 use Rattle.encode_raster.specs.laws.Answer.{bare, planRules, Within, LinesFit}
 use Rattle.units.specs.laws.Parts.{tail-is, put-next}
 use Rattle.encode_raster.specs.laws.Plan.{Planned}

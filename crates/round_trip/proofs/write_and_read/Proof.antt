@@ -5,7 +5,8 @@ use Prim.Native.Nat.{_≤_}
 use mathlib.Core.Path.{_≡_, refl, sym, _∙_, ap}
 use borrow.Author.Needs.{needs}
 use Rattle.round_trip.specs.Call.{BothCalls}
-use Rattle.round_trip.specs.laws.Call.{number-is, size-fits, length-after, given-back}
+use Rattle.round_trip.specs.laws.Call.{number-is, number-from, size-fits, length-after, given-back}
+use Rattle.layout.specs.Reading.{RasterNumbers}
 use Rattle.encode_raster.specs.Answer.{picture}
 use Rattle.encode_header.specs.Picture.{Picture}
 use Rattle.round_trip.proofs.write_and_read.Statement.{statement}
@@ -13,17 +14,18 @@ use Rattle.round_trip.proofs.write_and_read.Tie as tie
 
 returns : tie.Need-returns
 returns c =
-    let a = c .before .before .before .before .before .before .before .before .before .before .before .args in
-    let w = c .before .before .before .before .write-raster in
+    let a = c .before .before .before .before .before .before .before .before .before .before .before .before .args in
+    let w = c .before .before .before .before .before .write-raster in
+    let u = c .unread in
     let i : Picture = (picture (a .dtc) (a .ppl) (a .nol) (a .slo) (a .scn) (a .drs) (a .table .now) (a .pixels .now)) in
-    let both : BothCalls i (a .out .now) (a .back .now) (a .marks .now) (record { written = w .result; read = record { answer = 0; good = 0; end = 0 } }) (w .last .1 .1 .1 .1 .1 .1 .1 .1 .0) (a .back .now) (a .marks .now) =
+    let both : BothCalls i (a .out .now) (a .back .now) (a .marks .now) (record { written = w .result; read = u .result }) (w .last .1 .1 .1 .1 .1 .1 .1 .1 .0) (a .back .now) (a .marks .now) =
     record {
       wrote = w .ensures .0;
       out-is = w .ensures .1;
-      unread = λ z. (refl, (refl, refl));
-      read-is = λ z. absurd (c .if1 .taken z);
+      unread = λ z. (u .ensures, (omega (arith, ap (λ (x : RasterNumbers). x .answer) (u .ensures), number-from i (length (a .out .now)) (w .result) (w .ensures .0) z), (refl, refl)));
+      read-is = λ z. absurd (c .before .if1 .taken z);
     } in
-    (both, λ ok px mk. absurd (c .if1 .taken (number-is i (length (a .out .now)) (w .result) (w .ensures .0) ∙ ok)))
+    (both, λ ok px mk. absurd (c .before .if1 .taken (number-is i (length (a .out .now)) (w .result) (w .ensures .0) ∙ ok)))
 
 slice-reshare-prefix-read-raster : tie.Need-slice-reshare-prefix-read-raster
 slice-reshare-prefix-read-raster c =
@@ -61,6 +63,7 @@ write-and-read-spec =
     tie.close
     (tie.spec
     (λ c κs. search needs)
+    (λ c. search needs)
     (λ c. search needs)
     returns
     slice-reshare-prefix-read-raster

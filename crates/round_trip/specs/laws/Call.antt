@@ -8,7 +8,7 @@ use lib.ListN.{length, take, drop, length-append, length-drop}
 use lib.Seq.{take-at}
 use lib.Dec.{eqb}
 use borrow.Author.Tests.{eq-eqb, eqb-true, ltb-false}
-use Rattle.units.specs.laws.Rules.{none-holds, both-none}
+use Rattle.units.specs.laws.Rules.{none-holds, both-none, first-from}
 use Rattle.header.specs.Reading.{headerReading}
 use Rattle.color.specs.Color.{colorReading}
 use Rattle.layout.specs.Reading.{rasterReading, pixelsAfter, marksAfter}
@@ -56,6 +56,14 @@ number-of i room = number-by i (writerRejection i room) (eqb (writerRejection i 
 
 pub number-is : (i : Picture) (room : ℕ) (w : WriteAnswer) → writeNumbers w ≡ writing i room → w .number ≡ writerRejection i room
 number-is i room w e = ap (λ (x : WriteNumbers). x .number) e ∙ number-of i room
+
+-- every number of the writer's rejections is 10 or above
+rejected-from : (i : Picture) (room : ℕ) → (writerRejection i room ≡ 0 → ⊥) → 10 ≤ writerRejection i room
+unfolding writerRejection
+rejected-from i room h = first-from 10 (givenRules i ++ pictureRules i room) tt h
+
+pub number-from : (i : Picture) (room : ℕ) (w : WriteAnswer) → writeNumbers w ≡ writing i room → (w .number ≡ 0 → ⊥) → 10 ≤ w .number
+number-from i room w e h = let s = number-is i room w e in rw s (rejected-from i room (λ z. h (s ∙ z)))
 
 pub size-fits : (i : Picture) (out : List ℕ) (w : WriteAnswer) → writeNumbers w ≡ writing i (length out) → w .number ≡ 0 → w .size .0 ≤ length out
 size-fits i out w e z =

@@ -1,10 +1,10 @@
 -- Tables of rules: none holds, and two tables one after the other.
-use Prim.Native.Nat.{ℕ, _<_}
+use Prim.Native.Nat.{ℕ, _≤_, _<_}
 use mathlib.Core.Path.{_≡_, refl, sym, _∙_}
 use mathlib.Core.Bool.{Bool, true, false, cond, _&&_}
 use mathlib.Core.List.{List, [], _∷_, _++_}
 use native.Mathlib.Omega.{arith}
-use lib.Dec.{T, ltb, eqb, ltb→lt}
+use lib.Dec.{T, ltb, leb, eqb, ltb→lt, leb→le}
 use borrow.Author.Tests.{eqb-true, eqb-false}
 use mir.Facts.{and-yes}
 use Rattle.units.specs.Rules.{Rule, first}
@@ -31,6 +31,21 @@ none-holds [] n h = tt
 none-holds (r ∷ rs) n h =
     let k : T (ltb 0 (r .number)) × T (numbered rs) = and-yes (ltb 0 (r .number)) (numbered rs) n in
     none-step (r .test) (r .number) (first rs) (k .0) (none-holds rs (k .1)) h
+
+-- no rule has a number below m, so neither has the first that holds
+abbrev pub numberedFrom : ℕ → List Rule → Bool
+numberedFrom m [] = true
+numberedFrom m (r ∷ rs) = leb m (r .number) && numberedFrom m rs
+
+from-step : (t : Bool) (n x m : ℕ) → T (leb m n) → ((x ≡ 0 → ⊥) → m ≤ x) → (cond t n x ≡ 0 → ⊥) → m ≤ cond t n x
+from-step true n x m p ih h = leb→le m n p
+from-step false n x m p ih h = ih h
+
+pub first-from : (m : ℕ) (rs : List Rule) → T (numberedFrom m rs) → (first rs ≡ 0 → ⊥) → m ≤ first rs
+first-from m [] n h = absurd (h refl)
+first-from m (r ∷ rs) n h =
+    let k : T (leb m (r .number)) × T (numberedFrom m rs) = and-yes (leb m (r .number)) (numberedFrom m rs) n in
+    from-step (r .test) (r .number) (first rs) m (k .0) (first-from m rs (k .1)) h
 
 -- of two tables one after the other: the first one's answer where it has one, else the second's
 here-step : (t : Bool) (n x y : ℕ) → ((x ≡ 0 → ⊥) → y ≡ x) → (cond t n x ≡ 0 → ⊥) → cond t n y ≡ cond t n x
