@@ -47,3 +47,12 @@ AppendedIgnored =
     → NoneLost f
     → length (f ++ more) ≤ 2147483647
     → ReadAlike f (f ++ more) pixels marks
+
+-- A reading whose answer is 0, every scanline good, has none lost: so a good sheet reads the same whatever follows it.
+-- `good-none-lost` proves it.
+abbrev pub GoodNoneLost : Type 0
+GoodNoneLost =
+    (f pixels marks : List ℕ)
+    → rasterRejection f (length pixels) (length marks) ≡ 0
+    → rasterReading f pixels marks .answer ≡ 0
+    → NoneLost f

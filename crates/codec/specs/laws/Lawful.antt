@@ -31,6 +31,8 @@ pub record Lawful (c : Codec) : Type 0 where
   -- without a header: what is not lost is there, and what is good gives a whole row
   pub within : (r : List ℕ) (p : ℕ) → c .extent r p .lost ≡ false → c .extent r p .used .0 ≤ length r
   pub taken-full : (r : List ℕ) (p : ℕ) → c .extent r p .status ≡ 0 → length (c .pixels (take (c .extent r p .used .0) r) p) ≡ p
+  -- what is good is not lost
+  pub good-kept : (r : List ℕ) (p : ℕ) → c .extent r p .status ≡ 0 → c .extent r p .lost ≡ false
   -- and what does not run past the file is settled, whatever follows
   pub settled : (r : List ℕ) (p : ℕ) → (c .extent r p ≡ fault 1 → ⊥) → Settled (λ s. c .extent s p) r
 
@@ -61,6 +63,7 @@ bytes =
           let e : ltb (length r) p ≡ false = one-test (ltb (length r) p) p h in
           let n : p ≤ length r = ltb-false (length r) p e in
           rw e (length-take-le p (take p r) (omega (arith, length-take-le p r n)));
+      good-kept = λ r p h. rw (one-test (ltb (length r) p) p h);
       settled = bytes-settled;
     }
 
@@ -82,6 +85,7 @@ word-pixels =
           let e : ltb (wordCount r .0) p ≡ false = one-test (ltb (wordCount r .0) p) (wordBytes p) h in
           let n : p ≤ wordCount r .0 = ltb-false (wordCount r .0) p e in
           rw e (ap length (words-taken r p) ∙ length-take-le p (words r) (omega (arith, length-words r)));
+      good-kept = λ r p h. rw (one-test (ltb (wordCount r .0) p) (wordBytes p) h);
       settled = words-settled;
     }
 
@@ -92,12 +96,25 @@ good-if true b n rest ih h = absurd (false≢true (sym h))
 good-if false true n rest ih h = refl
 good-if false false n rest ih h = ih h
 
+kept-if : (a b : Bool) (n : ℕ) (rest : Extent) → (rest .status ≡ 0 → rest .lost ≡ false)
+    → cond a (fault 7) (cond b (taken n) rest) .status ≡ 0 → cond a (fault 7) (cond b (taken n) rest) .lost ≡ false
+kept-if true b n rest ih h = absurd (omega arith)
+kept-if false true n rest ih h = refl
+kept-if false false n rest ih h = ih h
+
 runs-good : (v left : ℕ) (ws : List ℕ) (used : ℕ) → runsFrom v left ws used .lost ≡ false → runsFrom v left ws used .status ≡ 0
 unfolding runsFrom
 runs-good v left [] used h = absurd (false≢true (sym h))
 runs-good v left (n ∷ ws) used h =
     good-if (ltb left n) (eqb v 0 && eqb left n) (used + wordBytes 1) (runsFrom (1 - v) (left - n) ws (used + wordBytes 1))
     (runs-good (1 - v) (left - n) ws (used + wordBytes 1)) h
+
+runs-kept : (v left : ℕ) (ws : List ℕ) (used : ℕ) → runsFrom v left ws used .status ≡ 0 → runsFrom v left ws used .lost ≡ false
+unfolding runsFrom
+runs-kept v left [] used h = absurd (omega arith)
+runs-kept v left (n ∷ ws) used h =
+    kept-if (ltb left n) (eqb v 0 && eqb left n) (used + wordBytes 1) (runsFrom (1 - v) (left - n) ws (used + wordBytes 1))
+    (runs-kept (1 - v) (left - n) ws (used + wordBytes 1)) h
 
 runs : Lawful runCodec
 runs =
@@ -106,6 +123,7 @@ runs =
       within = λ r p h. extent-within r p (runExtent r p) refl (runs-good 0 p (words r) 0 h);
       taken-full =
           λ r p h. length-runPixels 0 (words (take (runExtent r p .used .0) r)) ∙ extent-total r p (runExtent r p) refl h;
+      good-kept = λ r p h. runs-kept 0 p (words r) 0 h;
       settled = runs-settled;
     }
 
@@ -117,6 +135,14 @@ pairs-good left (v ∷ (n ∷ ws)) used h =
     good-if (ltb left n) (eqb left n) (used + wordBytes 2) (pairsFrom (left - n) ws (used + wordBytes 2))
     (pairs-good (left - n) ws (used + wordBytes 2)) h
 
+pairs-kept : (left : ℕ) (ws : List ℕ) (used : ℕ) → pairsFrom left ws used .status ≡ 0 → pairsFrom left ws used .lost ≡ false
+unfolding pairsFrom
+pairs-kept left [] used h = absurd (omega arith)
+pairs-kept left (v ∷ []) used h = absurd (omega arith)
+pairs-kept left (v ∷ (n ∷ ws)) used h =
+    kept-if (ltb left n) (eqb left n) (used + wordBytes 2) (pairsFrom (left - n) ws (used + wordBytes 2))
+    (pairs-kept (left - n) ws (used + wordBytes 2)) h
+
 pairs : Lawful pairCodec
 pairs =
     record {
@@ -125,6 +151,7 @@ pairs =
       taken-full =
           λ r p h.
           length-pairPixels (words (take (pairExtent r p .used .0) r)) ∙ pairs-taken r p (pairExtent r p) refl h .1;
+      good-kept = λ r p h. pairs-kept p (words r) 0 h;
       settled = pairs-settled;
     }
 
@@ -134,6 +161,7 @@ none =
       full = λ b p h. absurd (omega arith);
       within = λ r p h. absurd (false≢true (sym h));
       taken-full = λ r p h. absurd (omega arith);
+      good-kept = λ r p h. absurd (omega arith);
       settled = λ r p h. record { size = 0; alike = λ rest. refl; all-taken = λ l. absurd (false≢true (sym l)) };
     }
 

@@ -184,6 +184,15 @@ module _ (scn t p : ℕ) (rest : List ℕ) where
       go true e = rw e
       go false e = rw e
 
+  -- a good scanline is not lost
+  pub good-not-lost : (number : ℕ) → readingOf scn t p number rest .status ≡ 0 → stepOf scn t p rest .lost ≡ false
+  good-not-lost number = go (eqb scn 1)
+    where
+      go : (s : Bool) → cond s (headedReading t p number rest) (openReading t p rest) .status ≡ 0
+          → cond s (headedStep rest) (openStep t p rest) .lost ≡ false
+      go true e = is-not-lost rest (no-fault t p number (headOf rest) (bodyOf rest) e .frame)
+      go false e = lawful t .good-kept rest p e
+
   pub length-row : (number : ℕ) → length (readingOf scn t p number rest .row) ≡ p
   length-row number = go (eqb scn 1)
     where

@@ -1,6 +1,7 @@
 -- Bytes that follow the last scanline are ignored.
-use Prim.Native.Nat.{ℕ, _*_, _≤_, _<_}
+use Prim.Native.Nat.{ℕ, zero, suc, _*_, _≤_, _<_}
 use mathlib.Core.Path.{_≡_, sym, _∙_, ap}
+use mathlib.Core.Bool.{true}
 use mathlib.Core.List.{List, _++_}
 use native.Mathlib.Omega.{arith}
 use lib.ListN.{length, getD, drop, length-append, List·getD-append}
@@ -10,14 +11,17 @@ use Rattle.fields.specs.declared.Fields.{Fields}
 use Rattle.fields.specs.Fields.{fieldsOf}
 use Rattle.header.specs.Rejections.{rulesTo22, rejectionTo22}
 use Rattle.header.specs.laws.Accepted.{accepted}
-use Rattle.layout.specs.Chain.{Raster, sheetOf, rows, statuses, endOf}
-use Rattle.layout.specs.Reading.{bufferRules, rasterRejection, answerOf, readNumbers}
-use Rattle.layout.specs.laws.Chain.{start-zero, start-within}
+use Rattle.layout.specs.Scanline.{Reading, readingOf}
+use Rattle.layout.specs.Chain.{Raster, sheetOf, from, start, reached, numberOf, rows, statuses, endOf}
+use Rattle.layout.specs.Reading.{RasterNumbers, bufferRules, rasterRejection, answerOf, readNumbers}
+use Rattle.layout.specs.laws.Chain.{start-zero, start-within, reached-zero, reached-suc, reading-reached}
+use Rattle.layout.specs.laws.Line.{good-not-lost}
+use Rattle.isolation.specs.laws.Buffers.{AllGood, answer-good}
 use Rattle.isolation.specs.laws.Chained.{start-later}
 use Rattle.isolation.specs.laws.OneFile.{pixels-are, marks-are, answer-is}
 use Rattle.isolation.specs.laws.TwoFiles.{sheet-by-fields}
 use Rattle.isolation.specs.laws.Law.{accepted-file}
-use Rattle.trailing.specs.Statement.{SameUpTo, NoneLost, TrailingIgnored, AppendedIgnored}
+use Rattle.trailing.specs.Statement.{SameUpTo, NoneLost, TrailingIgnored, AppendedIgnored, GoodNoneLost}
 use Rattle.trailing.specs.laws.Front.{front-by-byte}
 use Rattle.trailing.specs.laws.Header.{same-header, also-accepted, same-reading, same-color}
 use Rattle.trailing.specs.laws.Chain.{SameLines, same-lines}
@@ -86,3 +90,17 @@ appended-ignored f more pixels marks ok none short =
       same = λ i h. List·getD-append f more 0 i (omega arith);
     })
     short
+
+-- where every scanline is good all are reached
+all-reached : (r : Raster) (n : ℕ) → AllGood r n → reached r n ≡ true
+all-reached r zero good = reached-zero r
+all-reached r (suc n) good =
+    let q : reached r n ≡ true = all-reached r n (λ k l. good k (omega arith)) in
+    let z : readingOf (r .scn) (r .dataType) (r .ppl) (numberOf r n) (from r (start r n)) .status ≡ 0 =
+    sym (ap (λ (x : Reading). x .status) (reading-reached r n q)) ∙ good n (omega arith) in
+    reached-suc r n ∙ rw (q, good-not-lost (r .scn) (r .dataType) (r .ppl) (from r (start r n)) (numberOf r n) z)
+
+pub good-none-lost : GoodNoneLost
+good-none-lost f pixels marks ok good =
+    all-reached (sheetOf f) (sheetOf f .nol)
+    (answer-good (sheetOf f) (sheetOf f .nol) .0 (sym (ap (λ (x : RasterNumbers). x .answer) (answer-is f pixels marks ok)) ∙ good))
