@@ -8,6 +8,30 @@ use super::sheet::{
 use crate::model::probe::{LISTING_LIMIT, LISTING_MARKS, LISTING_PIXELS};
 use crate::rng::Rng;
 
+/// The families of the inputs that are always run, and of those by chance.
+pub const FIXED: [&str; 9] = [
+    "flaws of a line, all together",
+    "every short body",
+    "every short raster without headers",
+    "cut at every byte",
+    "words to follow",
+    "one bit changed",
+    "limits of the buffers",
+    "limit of the input",
+    "header refused",
+];
+pub const BY_CHANCE: [&str; 9] = [
+    "good, with headers",
+    "good, without headers",
+    "damaged lines",
+    "lost lines",
+    "cut anywhere",
+    "bytes changed",
+    "runs that miss the width",
+    "raster by chance",
+    "more or fewer lines than told",
+];
+
 pub struct Input {
     pub family: &'static str,
     pub file: Vec<u8>,
