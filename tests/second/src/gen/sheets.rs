@@ -10,6 +10,7 @@ use crate::rng::Rng;
 
 /// The families of the inputs that are always run, and of those by chance.
 pub const FIXED: [&str; 9] = [
+    "limit of the input",
     "flaws of a line, all together",
     "every short body",
     "every short raster without headers",
@@ -17,7 +18,6 @@ pub const FIXED: [&str; 9] = [
     "words to follow",
     "one bit changed",
     "limits of the buffers",
-    "limit of the input",
     "header refused",
 ];
 pub const BY_CHANCE: [&str; 9] = [
@@ -44,6 +44,7 @@ pub fn fixed(seed: u64) -> Vec<Input> {
     let mut add = |family, files: Vec<Vec<u8>>| {
         all.extend(files.into_iter().map(|file| Input { family, file }));
     };
+    add("limit of the input", sizes(&mut rng));
     add("flaws of a line, all together", flaws(&mut rng));
     add("every short body", short_bodies());
     add("every short raster without headers", short_rasters());
@@ -51,7 +52,6 @@ pub fn fixed(seed: u64) -> Vec<Input> {
     add("words to follow", follows());
     add("one bit changed", bits());
     add("limits of the buffers", buffers(&mut rng));
-    add("limit of the input", sizes(&mut rng));
     add(
         "header refused",
         (11..=22).flat_map(|n| [n; 8]).map(|n| refused(&mut rng, &[n])).collect(),
