@@ -37,7 +37,8 @@ try() {
 listed() { [ "$status" = 0 ] && cmp -s "$room/out" "$room/right" && [ ! -s "$room/err" ]; }
 # Nothing on standard output, this status, and these words on standard error.
 refused() { [ "$status" = "$1" ] && [ ! -s "$room/out" ] && grep -qF -- "$2" "$room/err"; }
-rebuilt() { [ "$status" = 0 ] && [ "$(cat "$room/out")" = "built anew" ] && grep -q 'list: .*proved (1 s)' "$room/err"; }
+# A new program was run, and a line on standard error names each crate that was proved.
+rebuilt() { [ "$status" = 0 ] && [ "$(cat "$room/out")" = "built anew" ] && [ "$(grep -c '^list: .* proved (1 s)$' "$room/err")" = 2 ]; }
 
 "$copy/target/bin/listing" <"$sample" >"$room/right"
 try "the sample lists as the README shows it" diff "$room/right" <(sed -n '/^    type 9/,/^$/s/^    //p' README.md)
@@ -96,6 +97,7 @@ cat >"$room/stand-in/rt" <<'EOF'
 printf '#!/bin/sh\necho built anew\n' >target/bin/listing
 chmod +x target/bin/listing
 touch target/stamp/listing
+echo "rt: text proved (1 s)"
 echo "rt: listing proved (1 s)"
 EOF
 chmod +x "$room/stand-in/rt"

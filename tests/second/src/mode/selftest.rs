@@ -1,5 +1,5 @@
-//! Mode `selftest`: every mode against the stand-ins. A right one must pass in full, each one
-//! with a defect must fail, and so must a mode that is given nothing to compare.
+//! Mode `selftest`: every mode against the stand-ins. A right one must pass, each one with a
+//! defect must fail, and so must a mode that is given nothing to compare.
 
 use crate::fake;
 use crate::peer;
@@ -114,13 +114,13 @@ impl Bench {
         let next = AtomicUsize::new(0);
         let work = || {
             let mut found = Vec::new();
-            while let Some((i, trial)) = {
+            loop {
                 let i = next.fetch_add(1, Ordering::Relaxed);
-                trials.get(i).map(|trial| (i, trial))
-            } {
+                let Some(trial) = trials.get(i) else {
+                    return found;
+                };
                 found.push((i, self.call(trial)));
             }
-            found
         };
         let mut found = thread::scope(|scope| {
             let other = scope.spawn(work);
@@ -145,7 +145,11 @@ impl Bench {
                 // No sheet of a pair is longer than the listing program takes.
                 let modes = modes_of(program)
                     .filter(|mode| (*mode, defect) != ("pairs", "cuts-long-input"));
-                trials.extend(modes.map(|mode| self.wrong(mode, &wrong, defect)));
+                trials.extend(modes.map(|mode| {
+                    let hangs = defect == "runs-on";
+                    let wanted = if hangs { tells(&[RUNS_ON]) } else { Wanted::Differs };
+                    self.until_fault(mode, &wrong, wanted)
+                }));
             }
         }
         Ok(trials)
@@ -157,13 +161,12 @@ impl Bench {
         self.trial(mode, name, words, Wanted::Passes)
     }
 
-    /// A mode that must find the defect.
-    fn wrong(&self, mode: &'static str, name: &str, defect: &str) -> Trial {
+    /// A mode that must find a fault. None but a program that runs on is hurried, as a busy
+    /// machine may be slow.
+    fn until_fault(&self, mode: &'static str, name: &str, wanted: Wanted) -> Trial {
+        let hurried = matches!(&wanted, Wanted::Tells(told) if told.iter().any(|t| t == RUNS_ON));
         let words = ["--until-fault", "--patience", SHORT_PATIENCE];
-        match defect {
-            "runs-on" => self.trial(mode, name, &words, tells(&[RUNS_ON])),
-            _ => self.trial(mode, name, &words[..1], Wanted::Differs),
-        }
+        self.trial(mode, name, if hurried { &words } else { &words[..1] }, wanted)
     }
 
     /// Programs that print what is right, and end as they should not.
@@ -173,8 +176,7 @@ impl Bench {
             let text = format!("#!/bin/sh\n'{}' fake-header\n{last}\n", self.exe.display());
             fs::write(self.dir.join(name), text)?;
             fs::set_permissions(self.dir.join(name), Permissions::from_mode(0o755))?;
-            let words = ["--until-fault", "--patience", SHORT_PATIENCE];
-            trials.push(self.trial("header", name, &words, tells(&[told])));
+            trials.push(self.until_fault("header", name, tells(&[told])));
         }
         Ok(trials)
     }
