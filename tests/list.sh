@@ -77,9 +77,9 @@ else
     echo "list: an unreadable file: not tried, as root can read any and cannot be nobody here"
 fi
 
-mkdir "$room/tools"
-for tool in bash dirname readlink mktemp mkdir rm tail; do ln -s "$(command -v $tool)" "$room/tools"; done
-list "$copy" env PATH="$room/tools" ./list "$sample"
+mkdir "$room/bare"
+for command in bash dirname readlink mktemp mkdir rm tail; do ln -s "$(command -v $command)" "$room/bare"; done
+list "$copy" env PATH="$room/bare" ./list "$sample"
 try "no rt" refused 2 "rt is not on the PATH"
 
 # A changed source is seen, and the program of before is not run.

@@ -161,8 +161,8 @@ impl Bench {
         self.trial(mode, name, words, Wanted::Passes)
     }
 
-    /// A mode that must find a fault. None but a program that runs on is hurried, as a busy
-    /// machine may be slow.
+    /// A mode that must find a fault. None but a program that runs on is hurried: others may be
+    /// slow.
     fn until_fault(&self, mode: &'static str, name: &str, wanted: Wanted) -> Trial {
         let hurried = matches!(&wanted, Wanted::Tells(told) if told.iter().any(|t| t == RUNS_ON));
         let words = ["--until-fault", "--patience", SHORT_PATIENCE];
