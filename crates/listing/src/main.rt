@@ -17,9 +17,10 @@ fn main() {
     list(&space[..n]);
 }
 
+// The buffers hold old pixels and marks on purpose: whatever the reading left as it was shows in the listing.
 fn list(file: &[u8]) {
-    let mut pixels = [0u16; 8192];
-    let mut marks = [0u8; 256];
+    let mut pixels = [65535u16; 8192];
+    let mut marks = [255u8; 256];
     let r = decode_raster::read_raster(file, &mut pixels, &mut marks);
     show(file, r, &pixels, &marks);
 }

@@ -38,7 +38,7 @@ const HEADER: [Defect; 9] = [
     after("runs-on", |_| std::thread::sleep(Duration::MAX)),
 ];
 
-const LISTING: [Defect; 9] = [
+const LISTING: [Defect; 13] = [
     before("last-byte-unread", |file| file.truncate(file.len().max(1) - 1)),
     before("cuts-long-input", |file| file.truncate(probe::LISTING_LIMIT)),
     after("no-newline", |out| out.truncate(out.len() - 1)),
@@ -46,18 +46,29 @@ const LISTING: [Defect; 9] = [
     // The first pixels painted before the fault was seen.
     after("keeps-part", |out| replace(out, " 7: 0", " 7: 1")),
     // Nothing but line 1 read.
-    after("line-one-only", |out| {
-        rows(out, |k, _, line| if k > 1 { zeros(line, k, 0) } else { line.into() })
-    }),
+    after("line-one-only", |out| rows(out, |row| row.number > 1, |row| row.set(0, &[0]))),
     // Blank from the first damaged line down.
-    after("stops-at-damage", |out| {
-        rows(out, |k, damaged, line| if damaged { zeros(line, k, 9) } else { line.into() })
+    after("stops-at-damage", |out| rows(out, |row| row.below_damage, |row| row.set(9, &[0]))),
+    // Rows and marks as they were lent.
+    after("refused-row-unpainted", |out| {
+        rows(out, |row| (1..9).contains(&row.mark), |row| row.set(row.mark, &LENT))
+    }),
+    after("unpainted-after-lost", |out| rows(out, |row| row.mark == 9, |row| row.set(9, &LENT))),
+    after("unmarked-after-lost", |out| rows(out, |row| row.mark == 9, |row| row.set(255, &[0]))),
+    // The accident: the last sheet's picture under a damaged line.
+    after("last-sheet-under-damage", |out| {
+        rows(out, |row| row.mark > 0, |row| row.set(row.mark, &LAST_SHEET))
     }),
     after("fixed-picture", |out| {
         *out = b"type 9 pixels 1 lines 1 answer 0 good 1 end 1026\n1 0: 0\n".to_vec()
     }),
     after("refuses-all", |out| *out = b"refused 11\n".to_vec()),
 ];
+
+/// What the listing program's pixels hold when it lends them.
+const LENT: [u16; 1] = [65_535];
+/// Some pixels of a sheet that was read before.
+const LAST_SHEET: [u16; 5] = [1, 1, 2, 3, 5];
 
 const WRITE: [Defect; 7] = [
     // Numbers narrowed to 16 bits before they are looked at.
@@ -97,21 +108,47 @@ fn replace(output: &mut Vec<u8>, from: &str, to: &str) {
     *output = text.into_bytes();
 }
 
-/// Makes each row of a listing anew, given its number and whether a line before it is damaged.
-fn rows(output: &mut Vec<u8>, make: fn(usize, bool, &str) -> String) {
-    let mut damaged = false;
-    let mut text = String::new();
-    for (k, line) in String::from_utf8_lossy(output).lines().enumerate() {
-        text.push_str(&if k > 0 { make(k, damaged, line) } else { line.to_string() });
-        text.push('\n');
-        damaged |= k > 0 && !line.contains(" 0: ");
-    }
-    *output = text.into_bytes();
+/// A row of a listing.
+struct Row {
+    number: usize,
+    mark: u8,
+    pixels: Vec<u16>,
+    /// Whether a line above it is damaged.
+    below_damage: bool,
 }
 
-fn zeros(line: &str, k: usize, mark: u8) -> String {
-    let pixels = line.split(' ').count() - 2;
-    format!("{k} {mark}:{}", " 0".repeat(pixels))
+impl Row {
+    /// Gives it a mark, and pixels over and over.
+    fn set(&mut self, mark: u8, pixels: &[u16]) {
+        self.mark = mark;
+        self.pixels = pixels.iter().copied().cycle().take(self.pixels.len()).collect();
+    }
+}
+
+/// Changes the rows of a listing that are chosen.
+fn rows(output: &mut Vec<u8>, chosen: fn(&Row) -> bool, change: fn(&mut Row)) {
+    let listing = String::from_utf8_lossy(output).into_owned();
+    let mut lines = listing.lines();
+    let mut text = format!("{}\n", lines.next().unwrap_or_default());
+    let mut below_damage = false;
+    for (i, line) in lines.enumerate() {
+        let (head, pixels) = line.split_once(": ").expect("a row has pixels");
+        let mark = head.split_once(' ').and_then(|(_, mark)| mark.parse().ok());
+        let pixels = pixels.split(' ').map(|pixel| pixel.parse().expect("a pixel is a number"));
+        let mut row = Row {
+            number: i + 1,
+            mark: mark.expect("a row has a mark"),
+            pixels: pixels.collect(),
+            below_damage,
+        };
+        below_damage |= row.mark > 0;
+        if chosen(&row) {
+            change(&mut row);
+        }
+        let pixels: Vec<String> = row.pixels.iter().map(u16::to_string).collect();
+        text.push_str(&format!("{} {}: {}\n", row.number, row.mark, pixels.join(" ")));
+    }
+    *output = text.into_bytes();
 }
 
 type Program = fn(&[u8]) -> Vec<u8>;

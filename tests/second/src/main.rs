@@ -13,19 +13,20 @@ mod rng;
 mod run;
 
 use args::Args;
+use std::panic::catch_unwind;
 use std::path::Path;
 use std::process::ExitCode;
 
 const USAGE: &str = "usage:
-  second header --probe PROGRAM [--peer DIR] [--count N] [--seed S]
-  second sheets --probe PROGRAM [--peer DIR] [--count N] [--seed S]
-  second pairs --probe PROGRAM [--count N] [--seed S]
-  second write --probe PROGRAM --listing PROGRAM --header PROGRAM
-               [--peer DIR] [--count N] [--seed S]
-  second selftest";
+  second header --probe PROGRAM [--peer DIR] [FLAGS]
+  second sheets --probe PROGRAM [--peer DIR] [FLAGS]
+  second pairs --probe PROGRAM [FLAGS]
+  second write --probe PROGRAM --listing PROGRAM --header PROGRAM [--peer DIR] [FLAGS]
+  second selftest
+FLAGS: [--count N] [--seed S] [--patience MILLISECONDS] [--first N] [--until-fault]";
 
 const MODES: [&str; 5] = ["header", "sheets", "pairs", "write", "selftest"];
-const SEED: u64 = 1989;
+const FLAGS: [&str; 6] = ["probe", "count", "seed", "patience", "first", "until-fault"];
 
 fn main() -> ExitCode {
     let words: Vec<String> = std::env::args().collect();
@@ -39,7 +40,8 @@ fn main() -> ExitCode {
         eprintln!("{USAGE}");
         return ExitCode::FAILURE;
     };
-    start(mode, &words[2..]).unwrap_or_else(|text| {
+    let ended = catch_unwind(|| start(mode, &words[2..]));
+    ended.unwrap_or(Err("panics".to_string())).unwrap_or_else(|text| {
         // Whoever looks at the last line only must see a failure too.
         println!("{mode}: {text}\n{mode}: 0 passed, 1 failed");
         ExitCode::FAILURE
@@ -47,37 +49,32 @@ fn main() -> ExitCode {
 }
 
 fn start(mode: &str, words: &[String]) -> Result<ExitCode, String> {
-    let flags: &[&str] = match mode {
-        "write" => &["probe", "listing", "header", "peer", "count", "seed"],
-        "pairs" => &["probe", "count", "seed"],
-        "selftest" => &[],
-        _ => &["probe", "peer", "count", "seed"],
+    let more: &[&str] = match mode {
+        "write" => &["listing", "header", "peer"],
+        "header" | "sheets" => &["peer"],
+        _ => &[],
     };
-    let args = Args::parse(words, flags)?;
-    let seed = args.number("seed", SEED)?;
-    let count = |default| args.number("count", default).map(|n| n as usize);
+    if mode == "selftest" {
+        Args::parse(words, &[])?;
+        return mode::selftest::run().map_err(|error| error.to_string());
+    }
+    let args = Args::parse(words, &[&FLAGS, more].concat())?;
+    let probe = args.program("probe")?;
     match mode {
         "header" => {
-            let count = count(mode::header::DEFAULT_COUNT)?;
-            mode::header::run(&args.program("probe")?, &args.peer(), count, seed)
+            mode::header::run(&probe, &args.peer(), &args.plan(mode::header::DEFAULT_COUNT)?)
         }
         "sheets" => {
-            let count = count(mode::sheets::DEFAULT_COUNT)?;
-            mode::sheets::run(&args.program("probe")?, &args.peer(), count, seed)
+            mode::sheets::run(&probe, &args.peer(), &args.plan(mode::sheets::DEFAULT_COUNT)?)
         }
-        "pairs" => {
-            let count = count(mode::pairs::DEFAULT_COUNT)?;
-            Ok(mode::pairs::run(&args.program("probe")?, count, seed))
-        }
-        "write" => {
-            let count = count(mode::write::DEFAULT_COUNT)?;
+        "pairs" => Ok(mode::pairs::run(&probe, &args.plan(mode::pairs::DEFAULT_COUNT)?)),
+        _ => {
             let programs = mode::write::Programs {
-                write: args.program("probe")?,
+                write: probe,
                 listing: args.program("listing")?,
                 header: args.program("header")?,
             };
-            mode::write::run(&programs, &args.peer(), count, seed)
+            mode::write::run(&programs, &args.peer(), &args.plan(mode::write::DEFAULT_COUNT)?)
         }
-        _ => mode::selftest::run().map_err(|error| error.to_string()),
     }
 }

@@ -14,7 +14,7 @@ pub struct Peer {
 }
 
 impl Peer {
-    pub fn load(dir: &Path, name: &'static str) -> Result<Peer, String> {
+    fn load(dir: &Path, name: &'static str) -> Result<Peer, String> {
         let path = dir.join(name);
         let file = fs::read(&path).map_err(|error| format!("{}: {error}", path.display()))?;
         let path = dir.join(format!("{name}.txt"));
@@ -26,9 +26,14 @@ impl Peer {
         let rows: Result<Vec<Vec<u64>>, _> =
             pixels.iter().map(|line| line.split_whitespace().map(str::parse).collect()).collect();
         let rows = rows.map_err(|error| format!("{}: {error}", path.display()))?;
-        Ok(Peer { name, file, notes: notes.collect(), rows })
+        let peer = Peer { name, file, notes: notes.collect(), rows };
+        if peer.rows.is_empty() || peer.note("len") != Some(peer.file.len() as i64) {
+            return Err(format!("{}: not the pixels and the length of {name}", path.display()));
+        }
+        Ok(peer)
     }
 
+    /// All of them: a mode that missed some would compare less than it says.
     pub fn all(dir: &Path) -> Result<Vec<Peer>, String> {
         NAMES.iter().map(|name| Peer::load(dir, name)).collect()
     }

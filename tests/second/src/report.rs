@@ -1,10 +1,11 @@
 //! Runs the cases of a mode on two threads and tells what came of them.
 
-use crate::run::{self, Run};
+use crate::run::{Program, Run};
 use std::collections::BTreeMap;
 use std::fmt::Write as _;
 use std::fs;
 use std::io;
+use std::panic::{catch_unwind, AssertUnwindSafe};
 use std::path::{Path, PathBuf};
 use std::process::ExitCode;
 use std::sync::atomic::{AtomicUsize, Ordering};
@@ -17,35 +18,85 @@ const SHOWN: usize = 5;
 /// So many programs that run on end the mode early.
 const HUNG: usize = 2;
 
+/// Which cases a mode runs.
+pub struct Plan {
+    /// Cases by chance are added up to this number.
+    pub count: usize,
+    pub seed: u64,
+    /// No more cases than so many, whatever they leave unreached.
+    pub first: usize,
+    /// Ends the mode at the first fault.
+    pub until_fault: bool,
+}
+
+/// What the cases of a mode must have reached: a generator that no longer gets there would
+/// pass for nothing.
+pub struct Needed {
+    pub reached: Vec<String>,
+    pub families: Vec<&'static str>,
+}
+
 /// What one case came to.
 pub struct Outcome {
     /// The family of cases it belongs to, for the counts.
     pub family: &'static str,
     /// What the case reached, such as a rejection or a mark, for the counts.
     pub reached: Vec<String>,
-    pub fault: Option<Fault>,
+    pub found: Found,
 }
+
+/// What a comparison found. Nothing but a comparison makes one, so no case passes without.
+pub struct Found(Option<Fault>);
 
 pub struct Fault {
     pub text: String,
     /// Named bytes for the dump: input, wanted and printed.
     pub dumps: Vec<(&'static str, Vec<u8>)>,
-    pub hung: bool,
+    hung: bool,
+}
+
+impl Found {
+    pub fn is_right(&self) -> bool {
+        self.0.is_none()
+    }
+
+    /// Looks further where nothing is wrong so far.
+    pub fn then(self, look: impl FnOnce() -> Result<(), Fault>) -> Found {
+        Found(self.0.or_else(|| look().err()))
+    }
+
+    /// Looks at something else first, unless the program runs on: that says more than this.
+    pub fn after(self, look: impl FnOnce() -> Result<(), Fault>) -> Found {
+        match self.0 {
+            Some(fault) if fault.hung => Found(Some(fault)),
+            other => Found(look().err().or(other)),
+        }
+    }
+
+    /// The first of two that is wrong.
+    pub fn and(self, other: Found) -> Found {
+        Found(self.0.or(other.0))
+    }
+
+    /// Puts the case's name before what is wrong.
+    pub fn named(self, name: &str) -> Found {
+        Found(self.0.map(|fault| Fault { text: format!("{name}: {}", fault.text), ..fault }))
+    }
 }
 
 /// Runs a program and compares what it prints with `wanted`, to the byte.
 /// The input is kept in the fault, so that it can be run again.
 pub fn compare(
-    program: &Path,
+    program: &Program,
     input: &[u8],
     pause: Option<usize>,
     wanted: &[u8],
-) -> io::Result<Result<(), Fault>> {
-    let run = run::run(program, input, pause)?;
+) -> io::Result<Found> {
+    let run = program.run(input, pause)?;
     Ok(judge(program, input, wanted, &run))
 }
 
-pub fn judge(program: &Path, input: &[u8], wanted: &[u8], run: &Run) -> Result<(), Fault> {
+pub fn judge(program: &Program, input: &[u8], wanted: &[u8], run: &Run) -> Found {
     let what = if run.hung {
         "runs on and was stopped".to_string()
     } else if run.status != Some(0) {
@@ -53,18 +104,17 @@ pub fn judge(program: &Path, input: &[u8], wanted: &[u8], run: &Run) -> Result<(
     } else if run.output != wanted {
         difference(wanted, &run.output)
     } else {
-        return Ok(());
+        return Found(None);
     };
-    let name = program.file_name().unwrap_or_default().to_string_lossy();
-    Err(Fault {
-        text: format!("{name}: {what}"),
+    Found(Some(Fault {
+        text: format!("{}: {what}", program.name()),
         dumps: vec![
             ("input", input.to_vec()),
             ("wanted", wanted.to_vec()),
             ("printed", run.output.clone()),
         ],
         hung: run.hung,
-    })
+    }))
 }
 
 /// A fault found without a program, or in what several of them printed.
@@ -93,12 +143,12 @@ fn excerpt(bytes: &[u8]) -> String {
     format!("{}{dots}", cut.escape_ascii())
 }
 
-/// Runs cases 0 to `total - 1`. Everything in `required` must have been reached by some
-/// case: a generator that no longer gets there would pass for nothing.
-pub fn drive<F>(mode: &str, total: usize, required: &[String], case: F) -> ExitCode
+/// Runs cases 0 to `total - 1`, as far as the plan goes, and prints what came of them.
+pub fn drive<F>(mode: &str, plan: &Plan, total: usize, needed: &Needed, case: F) -> ExitCode
 where
     F: Fn(usize) -> io::Result<Outcome> + Sync,
 {
+    let total = total.min(plan.first);
     let next = AtomicUsize::new(0);
     let outcomes: Mutex<BTreeMap<usize, Outcome>> = Mutex::new(BTreeMap::new());
     // Why the mode ends early.
@@ -111,13 +161,13 @@ where
                 if i >= total || trouble.lock().expect("no worker panics").is_some() {
                     break;
                 }
-                let reason = match case(i) {
-                    Err(error) => Some(format!("a program cannot be run: {error}")),
-                    Ok(outcome) => {
-                        let runs_on = outcome.fault.as_ref().is_some_and(|fault| fault.hung);
+                let reason = match catch_unwind(AssertUnwindSafe(|| case(i))) {
+                    Err(_) => Some(format!("case {i} panics")),
+                    Ok(Err(error)) => Some(format!("a program cannot be run: {error}")),
+                    Ok(Ok(outcome)) => {
+                        let reason = ends(plan, &outcome, &hung);
                         outcomes.lock().expect("no worker panics").insert(i, outcome);
-                        (runs_on && hung.fetch_add(1, Ordering::Relaxed) + 1 >= HUNG)
-                            .then(|| "programs run on".to_string())
+                        reason
                     }
                 };
                 if reason.is_some() {
@@ -128,36 +178,57 @@ where
     });
     let outcomes = outcomes.into_inner().expect("no worker panics");
     let trouble = trouble.into_inner().expect("no worker panics");
-    conclude(mode, outcomes, required, trouble)
+    let failed = describe(mode, &outcomes);
+    let failed = match trouble {
+        Some(reason) => {
+            println!("{mode}: ended early, {reason}");
+            failed.max(1)
+        }
+        None => failed + unreached(mode, &outcomes, needed),
+    };
+    let passed = outcomes.values().filter(|outcome| outcome.found.is_right()).count();
+    println!("{mode}: {passed} passed, {failed} failed");
+    ExitCode::from(u8::from(failed > 0))
 }
 
-fn conclude(
-    mode: &str,
-    outcomes: BTreeMap<usize, Outcome>,
-    required: &[String],
-    trouble: Option<String>,
-) -> ExitCode {
+/// Why a mode ends with this case, if it does.
+fn ends(plan: &Plan, outcome: &Outcome, hung: &AtomicUsize) -> Option<String> {
+    let fault = outcome.found.0.as_ref()?;
+    if plan.until_fault {
+        return Some("a fault was looked for".to_string());
+    }
+    (fault.hung && hung.fetch_add(1, Ordering::Relaxed) + 1 >= HUNG)
+        .then(|| "programs run on".to_string())
+}
+
+/// Describes the first faults, and counts them all.
+fn describe(mode: &str, outcomes: &BTreeMap<usize, Outcome>) -> usize {
+    let dir = std::env::temp_dir().join(format!("second-{mode}-{}", std::process::id()));
+    let mut failed = 0;
+    for (i, outcome) in outcomes {
+        let Some(fault) = &outcome.found.0 else {
+            continue;
+        };
+        failed += 1;
+        if failed <= SHOWN {
+            println!("case {i} ({}): {}", outcome.family, fault.text);
+            match dump(&dir, *i, fault) {
+                Ok(path) => println!("  see {}", path.display()),
+                Err(error) => println!("  no dump: {error}"),
+            }
+        }
+    }
+    failed
+}
+
+/// Prints what was reached, and counts what should have been and was not.
+fn unreached(mode: &str, outcomes: &BTreeMap<usize, Outcome>, needed: &Needed) -> usize {
     let mut families: BTreeMap<&str, usize> = BTreeMap::new();
     let mut reached: BTreeMap<&str, usize> = BTreeMap::new();
-    let (mut passed, mut failed) = (0, 0);
-    let dir = std::env::temp_dir().join(format!("second-{mode}-{}", std::process::id()));
-    for (i, outcome) in &outcomes {
+    for outcome in outcomes.values() {
         *families.entry(outcome.family).or_default() += 1;
         for what in &outcome.reached {
             *reached.entry(what).or_default() += 1;
-        }
-        match &outcome.fault {
-            None => passed += 1,
-            Some(fault) => {
-                failed += 1;
-                if failed <= SHOWN {
-                    println!("case {i} ({}): {}", outcome.family, fault.text);
-                    match dump(&dir, *i, fault) {
-                        Ok(path) => println!("  see {}", path.display()),
-                        Err(error) => println!("  no dump: {error}"),
-                    }
-                }
-            }
         }
     }
     for (family, count) in &families {
@@ -165,20 +236,20 @@ fn conclude(
     }
     let counts: Vec<String> = reached.iter().map(|(what, n)| format!("{what} {n}")).collect();
     println!("{mode}: reached {}", counts.join(", "));
-    match trouble {
-        Some(reason) => {
-            println!("{mode}: ended early, {reason}");
-            failed += 1;
-        }
-        None => {
-            for what in required.iter().filter(|what| !reached.contains_key(what.as_str())) {
-                println!("{mode}: no case reached {what}");
-                failed += 1;
-            }
-        }
+    let mut missed = Vec::new();
+    if outcomes.is_empty() {
+        missed.push("no case was run".to_string());
     }
-    println!("{mode}: {passed} passed, {failed} failed");
-    ExitCode::from(u8::from(failed > 0 || passed == 0))
+    for what in needed.reached.iter().filter(|what| !reached.contains_key(what.as_str())) {
+        missed.push(format!("no case reached {what}"));
+    }
+    for family in needed.families.iter().filter(|family| !families.contains_key(*family)) {
+        missed.push(format!("no case is one of: {family}"));
+    }
+    for text in &missed {
+        println!("{mode}: {text}");
+    }
+    missed.len()
 }
 
 /// Writes a hex dump to read, and each part raw to run again.

@@ -8,6 +8,21 @@ use crate::rng::Rng;
 /// The numbers a header is refused with; 10 needs a file of 2 GB.
 pub const REJECTIONS: std::ops::RangeInclusive<u32> = 11..=22;
 
+/// The families of the inputs that are always run, and of those by chance.
+pub const FIXED: [&str; 9] = [
+    "edges by hand",
+    "limits of fields",
+    "limits of tables",
+    "slots twice",
+    "cut short",
+    "limit of the input",
+    "one fault",
+    "two faults",
+    "one bit changed",
+];
+pub const BY_CHANCE: [&str; 4] =
+    ["accepted by chance", "several faults", "bytes changed", "bytes by chance"];
+
 pub struct Input {
     pub family: &'static str,
     pub bytes: Vec<u8>,

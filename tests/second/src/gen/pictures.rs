@@ -7,6 +7,20 @@ use crate::rng::Rng;
 /// by the picture's width.
 pub const REJECTIONS: [u32; 9] = [16, 17, 18, 19, 20, 21, 23, 26, 28];
 
+/// The families of the inputs that are always run, and of those by chance.
+pub const FIXED: [&str; 9] = [
+    "limits of the input",
+    "long runs",
+    "limit of a body",
+    "limits of fields",
+    "one bit changed",
+    "many lines",
+    "one fault",
+    "two faults",
+    "too wide, and a fault",
+];
+pub const BY_CHANCE: [&str; 2] = ["pictures by chance", "faults by chance"];
+
 pub struct Input {
     pub family: &'static str,
     pub what: What,

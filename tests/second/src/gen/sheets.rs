@@ -8,6 +8,30 @@ use super::sheet::{
 use crate::model::probe::{LISTING_LIMIT, LISTING_MARKS, LISTING_PIXELS};
 use crate::rng::Rng;
 
+/// The families of the inputs that are always run, and of those by chance.
+pub const FIXED: [&str; 9] = [
+    "limit of the input",
+    "flaws of a line, all together",
+    "every short body",
+    "every short raster without headers",
+    "cut at every byte",
+    "words to follow",
+    "one bit changed",
+    "limits of the buffers",
+    "header refused",
+];
+pub const BY_CHANCE: [&str; 9] = [
+    "good, with headers",
+    "good, without headers",
+    "damaged lines",
+    "lost lines",
+    "cut anywhere",
+    "bytes changed",
+    "runs that miss the width",
+    "raster by chance",
+    "more or fewer lines than told",
+];
+
 pub struct Input {
     pub family: &'static str,
     pub file: Vec<u8>,
@@ -20,6 +44,7 @@ pub fn fixed(seed: u64) -> Vec<Input> {
     let mut add = |family, files: Vec<Vec<u8>>| {
         all.extend(files.into_iter().map(|file| Input { family, file }));
     };
+    add("limit of the input", sizes(&mut rng));
     add("flaws of a line, all together", flaws(&mut rng));
     add("every short body", short_bodies());
     add("every short raster without headers", short_rasters());
@@ -27,7 +52,6 @@ pub fn fixed(seed: u64) -> Vec<Input> {
     add("words to follow", follows());
     add("one bit changed", bits());
     add("limits of the buffers", buffers(&mut rng));
-    add("limit of the input", sizes(&mut rng));
     add(
         "header refused",
         (11..=22).flat_map(|n| [n; 8]).map(|n| refused(&mut rng, &[n])).collect(),

@@ -1,26 +1,26 @@
 //! Mode `header`: headers and colors through the header program.
 
-use crate::gen::headers::{fixed, random, Input, REJECTIONS};
+use crate::gen::headers::{fixed, random, Input, BY_CHANCE, FIXED, REJECTIONS};
 use crate::gen::some_pause;
 use crate::model::header::{self, Resolution};
 use crate::model::probe;
 use crate::peer::Peer;
-use crate::report::{self, fault, Fault, Outcome};
+use crate::report::{self, fault, Fault, Needed, Outcome, Plan};
 use crate::rng::Rng;
+use crate::run::Program;
 use std::io;
 use std::path::Path;
 use std::process::ExitCode;
 
 pub const DEFAULT_COUNT: u64 = 6_000;
+const OTHER: &str = "sheets of another program";
 
-pub fn run(program: &Path, peer: &Path, count: usize, seed: u64) -> Result<ExitCode, String> {
+pub fn run(program: &Program, peer: &Path, plan: &Plan) -> Result<ExitCode, String> {
     let peers = Peer::all(peer)?;
-    let fixed = fixed(seed);
-    let total = count.max(fixed.len() + peers.len());
-    let mut required: Vec<String> = REJECTIONS.map(|n| format!("refused {n}")).collect();
-    required.extend(["accepted", "too long"].map(String::from));
-    Ok(report::drive("header", total, &required, |i| {
-        let mut rng = Rng::new(seed, i as u64);
+    let fixed = fixed(plan.seed);
+    let total = plan.count.max(fixed.len() + peers.len());
+    Ok(report::drive("header", plan, total, &needed(plan), |i| {
+        let mut rng = Rng::new(plan.seed, i as u64);
         if let Some(peer) = peers.get(i) {
             return check_peer(program, peer);
         }
@@ -34,14 +34,25 @@ pub fn run(program: &Path, peer: &Path, count: usize, seed: u64) -> Result<ExitC
     }))
 }
 
-fn check(program: &Path, rng: &mut Rng, input: &Input) -> io::Result<Outcome> {
+fn needed(plan: &Plan) -> Needed {
+    let mut reached: Vec<String> = REJECTIONS.map(|n| format!("refused {n}")).collect();
+    reached.extend(["accepted", "too long"].map(String::from));
+    let mut families = vec![OTHER];
+    families.extend(FIXED);
+    if plan.count >= DEFAULT_COUNT as usize {
+        families.extend(BY_CHANCE);
+    }
+    Needed { reached, families }
+}
+
+fn check(program: &Program, rng: &mut Rng, input: &Input) -> io::Result<Outcome> {
     let wanted = probe::header(&input.bytes);
     let pause = some_pause(rng, input.bytes.len());
-    let mut fault = report::compare(program, &input.bytes, pause, &wanted)?.err();
+    let mut found = report::compare(program, &input.bytes, pause, &wanted)?;
     if let Some(first) = &input.first {
-        fault = fault.or_else(|| check_first(&wanted, first, &input.bytes).err());
+        found = found.then(|| check_first(&wanted, first, &input.bytes));
     }
-    Ok(Outcome { family: input.family, reached: vec![reached(&wanted)], fault })
+    Ok(Outcome { family: input.family, reached: vec![reached(&wanted)], found })
 }
 
 /// The hand-written line against the model, so that neither is trusted alone.
@@ -62,15 +73,14 @@ fn reached(wanted: &[u8]) -> String {
     if first.starts_with("type") { "accepted" } else { first }.to_string()
 }
 
-fn check_peer(program: &Path, peer: &Peer) -> io::Result<Outcome> {
+fn check_peer(program: &Program, peer: &Peer) -> io::Result<Outcome> {
     let wanted = probe::header(&peer.file);
-    let mut fault = report::compare(program, &peer.file, None, &wanted)?.err();
-    if fault.is_none() {
-        fault = agrees(peer).err().map(|text| {
-            report::fault(format!("{}: {text}", peer.name), vec![("input", peer.file.clone())])
-        });
-    }
-    Ok(Outcome { family: "sheets of another program", reached: vec![reached(&wanted)], fault })
+    let found = report::compare(program, &peer.file, None, &wanted)?.then(|| {
+        agrees(peer).map_err(|text| {
+            fault(format!("{}: {text}", peer.name), vec![("input", peer.file.clone())])
+        })
+    });
+    Ok(Outcome { family: OTHER, reached: vec![reached(&wanted)], found })
 }
 
 /// The own reader against the note that came with the sheet.

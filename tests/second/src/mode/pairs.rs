@@ -7,15 +7,18 @@ use crate::gen::sheets::some_headed;
 use crate::gen::{put, some_pause};
 use crate::model::probe::{self, LISTING_LIMIT, LISTING_MARKS, LISTING_PIXELS};
 use crate::model::sheet as model;
-use crate::report::{self, fault, Fault, Outcome};
+use crate::report::{self, fault, Fault, Needed, Outcome, Plan};
 use crate::rng::Rng;
-use crate::run;
+use crate::run::Program;
 use std::io;
 use std::ops::Range;
-use std::path::Path;
 use std::process::ExitCode;
 
 pub const DEFAULT_COUNT: u64 = 500;
+const GOOD: &str = "good";
+const DAMAGED: &str = "lines damaged";
+const LOST: &str = "chain lost";
+const CUT: &str = "file cut";
 
 struct Pair {
     family: &'static str,
@@ -25,40 +28,37 @@ struct Pair {
     same: Vec<bool>,
 }
 
-pub fn run(program: &Path, count: usize, seed: u64) -> ExitCode {
-    let mut required: Vec<String> =
-        (0..=9).map(|mark| format!("mark {mark} with headers")).collect();
-    required
-        .extend(["cut body changed", "mark changed", "mark kept, row changed"].map(String::from));
-    if count < DEFAULT_COUNT as usize {
-        // All pairs are by chance; few of them need not reach everything.
-        required.clear();
-    }
-    report::drive("pairs", count, &required, |i| {
-        let mut rng = Rng::new(seed, i as u64);
+pub fn run(program: &Program, plan: &Plan) -> ExitCode {
+    report::drive("pairs", plan, plan.count, &needed(), |i| {
+        let mut rng = Rng::new(plan.seed, i as u64);
         let pair = some_pair(&mut rng);
         check(program, &mut rng, &pair)
     })
 }
 
-fn check(program: &Path, rng: &mut Rng, pair: &Pair) -> io::Result<Outcome> {
-    let mut listings = Vec::new();
-    let mut found = None;
-    for file in [&pair.first, &pair.second] {
+/// All pairs are by chance: too few of them do not reach all of this.
+fn needed() -> Needed {
+    let mut reached: Vec<String> =
+        (0..=9).map(|mark| format!("mark {mark} with headers")).collect();
+    reached
+        .extend(["cut body changed", "mark changed", "mark kept, row changed"].map(String::from));
+    Needed { reached, families: vec![GOOD, DAMAGED, LOST, CUT] }
+}
+
+fn check(program: &Program, rng: &mut Rng, pair: &Pair) -> io::Result<Outcome> {
+    let mut list = |file: &[u8]| {
         let pause = some_pause(rng, file.len());
-        let run = run::run(program, file, pause)?;
-        let wanted = probe::listing(file);
-        found = found.or(report::judge(program, file, &wanted, &run).err());
-        listings.push(run.output);
-    }
-    let found = match found {
-        Some(fault) if fault.hung => Some(fault),
-        // First what holds of the two listings by themselves, whatever the model says.
-        other => compare(&listings, pair).err().or(other),
+        let run = program.run(file, pause)?;
+        let found = report::judge(program, file, &probe::listing(file), &run);
+        io::Result::Ok((run.output, found))
     };
+    let (first, found) = list(&pair.first)?;
+    let (second, also) = list(&pair.second)?;
+    // First what holds of the two listings by themselves, whatever the model says.
+    let found = found.and(also).after(|| compare(&[first, second], pair));
     let mut reached = reached(&pair.second);
     reached.extend(effects(pair));
-    Ok(Outcome { family: pair.family, reached, fault: found })
+    Ok(Outcome { family: pair.family, reached, found })
 }
 
 /// What demand 3 says of two listings: not refused, same end, and the same mark and row for
@@ -130,9 +130,9 @@ fn some_pair(rng: &mut Rng) -> Pair {
         let kind = rng.pick(&TYPES);
         let (ppl, nol) = some_size(rng);
         let (family, harm) = match rng.below(4) {
-            0 => ("good", Harm::None),
-            1 | 2 => ("lines damaged", Harm::Lines),
-            _ => ("chain lost", Harm::Chain),
+            0 => (GOOD, Harm::None),
+            1 | 2 => (DAMAGED, Harm::Lines),
+            _ => (LOST, Harm::Chain),
         };
         let mut first = some_headed(rng, kind, ppl, nol, harm);
         let mut cut = false;
@@ -172,7 +172,7 @@ fn some_pair(rng: &mut Rng) -> Pair {
         if same.iter().all(|same| *same) {
             continue;
         }
-        let family = if cut { "file cut" } else { family };
+        let family = if cut { CUT } else { family };
         return Pair { family, first, second, same };
     }
 }

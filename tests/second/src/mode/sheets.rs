@@ -1,28 +1,31 @@
 //! Mode `sheets`: whole sheets through the listing program.
 
 use crate::edges::{self, Edge};
-use crate::gen::sheets::{fixed, random, Input};
+use crate::gen::sheets::{fixed, random, Input, BY_CHANCE, FIXED};
 use crate::gen::some_pause;
 use crate::model::probe::{self, LISTING_LIMIT, LISTING_MARKS, LISTING_PIXELS};
 use crate::model::sheet as model;
 use crate::peer::Peer;
-use crate::report::{self, fault, Outcome};
+use crate::report::{self, fault, Found, Needed, Outcome, Plan};
 use crate::rng::Rng;
+use crate::run::Program;
 use std::collections::BTreeSet;
 use std::io;
 use std::path::Path;
 use std::process::ExitCode;
 
 pub const DEFAULT_COUNT: u64 = 6_000;
+const OTHER: &str = "sheets of another program";
+const EDGES: &str = "edges by hand";
 
-pub fn run(program: &Path, peer: &Path, count: usize, seed: u64) -> Result<ExitCode, String> {
+pub fn run(program: &Program, peer: &Path, plan: &Plan) -> Result<ExitCode, String> {
     let peers = Peer::all(peer)?;
     let edges = edges::edges();
-    let fixed = fixed(seed);
+    let fixed = fixed(plan.seed);
     let known = peers.len() + edges.len();
-    let total = count.max(known + fixed.len());
-    Ok(report::drive("sheets", total, &required(), |i| {
-        let mut rng = Rng::new(seed, i as u64);
+    let total = plan.count.max(known + fixed.len());
+    Ok(report::drive("sheets", plan, total, &needed(plan), |i| {
+        let mut rng = Rng::new(plan.seed, i as u64);
         if let Some(peer) = peers.get(i) {
             return check_peer(program, peer);
         }
@@ -39,12 +42,17 @@ pub fn run(program: &Path, peer: &Path, count: usize, seed: u64) -> Result<ExitC
     }))
 }
 
-fn required() -> Vec<String> {
-    let mut all: Vec<String> = (11..=24).map(|number| format!("refused {number}")).collect();
-    all.extend((0..=9).map(|mark| format!("mark {mark} with headers")));
-    all.extend([0, 1, 7, 9].map(|mark| format!("mark {mark} without")));
-    all.extend(["answer 0", "answer 1", "too long"].map(String::from));
-    all
+fn needed(plan: &Plan) -> Needed {
+    let mut reached: Vec<String> = (11..=24).map(|number| format!("refused {number}")).collect();
+    reached.extend((0..=9).map(|mark| format!("mark {mark} with headers")));
+    reached.extend([0, 1, 7, 9].map(|mark| format!("mark {mark} without")));
+    reached.extend(["answer 0", "answer 1", "too long"].map(String::from));
+    let mut families = vec![OTHER, EDGES];
+    families.extend(FIXED);
+    if plan.count >= DEFAULT_COUNT as usize {
+        families.extend(BY_CHANCE);
+    }
+    Needed { reached, families }
 }
 
 /// What the model makes of a sheet: a rejection, or answer and marks.
@@ -64,28 +72,32 @@ pub fn reached(file: &[u8]) -> Vec<String> {
     }
 }
 
-fn check(program: &Path, rng: &mut Rng, input: &Input) -> io::Result<Outcome> {
+fn check(program: &Program, rng: &mut Rng, input: &Input) -> io::Result<Outcome> {
     let wanted = probe::listing(&input.file);
     let pause = some_pause(rng, input.file.len());
-    let fault = report::compare(program, &input.file, pause, &wanted)?.err();
-    Ok(Outcome { family: input.family, reached: reached(&input.file), fault })
+    let found = report::compare(program, &input.file, pause, &wanted)?;
+    Ok(Outcome { family: input.family, reached: reached(&input.file), found })
 }
 
-/// An outcome written out by hand, against the program and against the model.
-fn check_edge(program: &Path, edge: &Edge) -> io::Result<Outcome> {
-    let printed = edge.printed.as_bytes();
-    let mut found = report::compare(program, &edge.file, None, printed)?.err();
-    if let Some(fault) = &mut found {
-        fault.text = format!("{}: {}", edge.name, fault.text);
-    } else if probe::listing(&edge.file) != printed {
-        let text = format!("{}: own reader says otherwise", edge.name);
-        found = Some(fault(text, vec![("input", edge.file.clone()), ("wanted", printed.to_vec())]));
-    }
-    Ok(Outcome { family: "edges by hand", reached: reached(&edge.file), fault: found })
+/// An outcome that was not made by the model, against the program and against the model.
+fn check_known(program: &Program, name: &str, file: &[u8], printed: &[u8]) -> io::Result<Found> {
+    let found = report::compare(program, file, None, printed)?.then(|| {
+        if probe::listing(file) == printed {
+            return Ok(());
+        }
+        let dumps = vec![("input", file.to_vec()), ("wanted", printed.to_vec())];
+        Err(fault("own reader says otherwise".to_string(), dumps))
+    });
+    Ok(found.named(name))
+}
+
+fn check_edge(program: &Program, edge: &Edge) -> io::Result<Outcome> {
+    let found = check_known(program, edge.name, &edge.file, edge.printed.as_bytes())?;
+    Ok(Outcome { family: EDGES, reached: reached(&edge.file), found })
 }
 
 /// The listing is made here from the note's pixels, not from the file.
-fn check_peer(program: &Path, peer: &Peer) -> io::Result<Outcome> {
+fn check_peer(program: &Program, peer: &Peer) -> io::Result<Outcome> {
     let note = |word| peer.note(word).unwrap_or(-1);
     let mut text = format!(
         "type {} pixels {} lines {} answer {} good {} end {}\n",
@@ -100,11 +112,6 @@ fn check_peer(program: &Path, peer: &Peer) -> io::Result<Outcome> {
         let row: Vec<String> = row.iter().map(u64::to_string).collect();
         text.push_str(&format!("{} 0: {}\n", i + 1, row.join(" ")));
     }
-    let wanted = text.as_bytes();
-    let mut found = report::compare(program, &peer.file, None, wanted)?.err();
-    if found.is_none() && probe::listing(&peer.file) != wanted {
-        let dumps = vec![("input", peer.file.clone()), ("wanted", wanted.to_vec())];
-        found = Some(fault(format!("{}: own reader says otherwise", peer.name), dumps));
-    }
-    Ok(Outcome { family: "sheets of another program", reached: reached(&peer.file), fault: found })
+    let found = check_known(program, peer.name, &peer.file, text.as_bytes())?;
+    Ok(Outcome { family: OTHER, reached: reached(&peer.file), found })
 }

@@ -3,36 +3,40 @@
 
 use crate::edges::{self, WrittenEdge};
 use crate::gen::picture::Picture;
-use crate::gen::pictures::{fixed, random, Input, What, REJECTIONS};
+use crate::gen::pictures::{fixed, random, Input, What, BY_CHANCE, FIXED, REJECTIONS};
 use crate::gen::some_pause;
 use crate::model::header::{self, Resolution};
 use crate::model::probe::{self, HEADER_LIMIT, LISTING_LIMIT, LISTING_MARKS, LISTING_PIXELS};
 use crate::model::sheet;
 use crate::peer::Peer;
-use crate::report::{self, fault, Fault, Outcome};
+use crate::report::{self, fault, Fault, Needed, Outcome, Plan};
 use crate::rng::Rng;
+use crate::run::Program;
 use std::fmt::Write as _;
 use std::io;
-use std::path::{Path, PathBuf};
+use std::path::Path;
 use std::process::ExitCode;
 
 pub const DEFAULT_COUNT: u64 = 4_000;
+const OTHER: &str = "sheet of another program";
+const EDGES: &str = "edges by hand";
 
 pub struct Programs {
-    pub write: PathBuf,
-    pub listing: PathBuf,
-    pub header: PathBuf,
+    pub write: Program,
+    pub listing: Program,
+    pub header: Program,
 }
 
-pub fn run(programs: &Programs, peer: &Path, count: usize, seed: u64) -> Result<ExitCode, String> {
-    let bilevel = Peer::load(peer, "bilevel.rle")?;
+pub fn run(programs: &Programs, peer: &Path, plan: &Plan) -> Result<ExitCode, String> {
+    let peers = Peer::all(peer)?;
+    let bilevel = peers.iter().find(|peer| peer.name == "bilevel.rle").ok_or("no bilevel.rle")?;
     let edges = edges::written_edges();
-    let fixed = fixed(seed);
-    let total = count.max(1 + edges.len() + fixed.len());
-    Ok(report::drive("write", total, &required(), |i| {
-        let mut rng = Rng::new(seed, i as u64);
+    let fixed = fixed(plan.seed);
+    let total = plan.count.max(1 + edges.len() + fixed.len());
+    Ok(report::drive("write", plan, total, &needed(plan), |i| {
+        let mut rng = Rng::new(plan.seed, i as u64);
         if i == 0 {
-            return check_bilevel(programs, &bilevel);
+            return check_bilevel(programs, bilevel);
         }
         if let Some(edge) = edges.get(i - 1) {
             return check_edge(programs, edge);
@@ -47,14 +51,21 @@ pub fn run(programs: &Programs, peer: &Path, count: usize, seed: u64) -> Result<
     }))
 }
 
-fn required() -> Vec<String> {
-    let mut all: Vec<String> =
+fn needed(plan: &Plan) -> Needed {
+    let mut reached: Vec<String> =
         REJECTIONS.iter().chain(&[27]).map(|n| format!("refused {n}")).collect();
     for kind in [2, 3, 9, 10] {
-        all.extend((0..=1).map(|scn| format!("written type {kind} scn {scn}")));
+        reached.extend((0..=1).map(|scn| format!("written type {kind} scn {scn}")));
     }
-    all.extend(["table", "too long", "short", "listed back", "header read back"].map(String::from));
-    all
+    reached.extend(
+        ["table", "too long", "short", "listed back", "header read back"].map(String::from),
+    );
+    let mut families = vec![OTHER, EDGES];
+    families.extend(FIXED);
+    if plan.count >= DEFAULT_COUNT as usize {
+        families.extend(BY_CHANCE);
+    }
+    Needed { reached, families }
 }
 
 fn check(programs: &Programs, rng: &mut Rng, input: &Input) -> io::Result<Outcome> {
@@ -64,13 +75,15 @@ fn check(programs: &Programs, rng: &mut Rng, input: &Input) -> io::Result<Outcom
     };
     let wanted = probe::write(&bytes);
     let pause = some_pause(rng, bytes.len());
-    let fault = report::compare(&programs.write, &bytes, pause, &wanted)?.err();
-    let mut outcome = Outcome { family: input.family, reached: Vec::new(), fault };
+    let found = report::compare(&programs.write, &bytes, pause, &wanted)?;
+    let mut outcome = Outcome { family: input.family, reached: Vec::new(), found };
     match &input.what {
-        What::Picture(picture) => follow(programs, picture, &mut outcome)?,
-        What::Bytes(_) => outcome.reached.push(first_line(&wanted)),
+        What::Picture(picture) => follow(programs, picture, outcome),
+        What::Bytes(_) => {
+            outcome.reached.push(first_line(&wanted));
+            Ok(outcome)
+        }
     }
-    Ok(outcome)
 }
 
 /// `too long`, `short`, or what came of the picture.
@@ -84,11 +97,11 @@ fn first_line(wanted: &[u8]) -> String {
 }
 
 /// After a right write: reads the file back in every way there is.
-fn follow(programs: &Programs, picture: &Picture, outcome: &mut Outcome) -> io::Result<()> {
+fn follow(programs: &Programs, picture: &Picture, mut outcome: Outcome) -> io::Result<Outcome> {
     let file = match picture.written() {
         Err(number) => {
             outcome.reached.push(format!("refused {number}"));
-            return Ok(());
+            return Ok(outcome);
         }
         Ok(file) => file,
     };
@@ -96,22 +109,20 @@ fn follow(programs: &Programs, picture: &Picture, outcome: &mut Outcome) -> io::
     if !picture.table.is_empty() {
         outcome.reached.push("table".to_string());
     }
-    if outcome.fault.is_none() {
-        outcome.fault = read_back(picture, &file).err();
-    }
+    outcome.found = outcome.found.then(|| read_back(picture, &file));
     let (ppl, nol) = (u64::from(picture.ppl), u64::from(picture.nol));
     let lent = ppl * nol <= LISTING_PIXELS && nol <= LISTING_MARKS;
-    if outcome.fault.is_none() && lent && file.len() <= LISTING_LIMIT {
+    if outcome.found.is_right() && lent && file.len() <= LISTING_LIMIT {
         outcome.reached.push("listed back".to_string());
         let listing = listing_of(picture, file.len());
-        outcome.fault = report::compare(&programs.listing, &file, None, &listing)?.err();
+        outcome.found = report::compare(&programs.listing, &file, None, &listing)?;
     }
-    if outcome.fault.is_none() && file.len() <= HEADER_LIMIT {
+    if outcome.found.is_right() && file.len() <= HEADER_LIMIT {
         outcome.reached.push("header read back".to_string());
         let fields = header_of(picture);
-        outcome.fault = report::compare(&programs.header, &file, None, &fields)?.err();
+        outcome.found = report::compare(&programs.header, &file, None, &fields)?;
     }
-    Ok(())
+    Ok(outcome)
 }
 
 /// The rows of a picture, without what was lent beyond them.
@@ -194,17 +205,15 @@ fn header_of(picture: &Picture) -> Vec<u8> {
 
 fn check_edge(programs: &Programs, edge: &WrittenEdge) -> io::Result<Outcome> {
     let input = edge.picture.input();
-    let mut found = report::compare(&programs.write, &input, None, &edge.printed)?.err();
-    if found.is_none() && probe::write(&input) != edge.printed {
-        let dumps = vec![("input", input), ("wanted", edge.printed.clone())];
-        found = Some(fault("own writer says otherwise".to_string(), dumps));
-    }
-    if let Some(fault) = &mut found {
-        fault.text = format!("{}: {}", edge.name, fault.text);
-    }
-    let mut outcome = Outcome { family: "edges by hand", reached: Vec::new(), fault: found };
-    follow(programs, &edge.picture, &mut outcome)?;
-    Ok(outcome)
+    let found = report::compare(&programs.write, &input, None, &edge.printed)?.then(|| {
+        if probe::write(&input) == edge.printed {
+            return Ok(());
+        }
+        let dumps = vec![("input", input.clone()), ("wanted", edge.printed.clone())];
+        Err(fault("own writer says otherwise".to_string(), dumps))
+    });
+    let outcome = Outcome { family: EDGES, reached: Vec::new(), found: found.named(edge.name) };
+    follow(programs, &edge.picture, outcome)
 }
 
 /// The other program's sheet without line headers has the bodies that the writer makes of
@@ -222,12 +231,12 @@ fn check_bilevel(programs: &Programs, peer: &Peer) -> io::Result<Outcome> {
         // What the program prints is compared with the other program's bytes.
         place.copy_from_slice(bodies);
     }
-    let mut found = report::compare(&programs.write, &input, None, &wanted)?.err();
-    if found.is_none() && !own {
-        found = Some(fault("own writer makes other bodies".to_string(), vec![("input", input)]));
-    }
-    let mut outcome =
-        Outcome { family: "sheet of another program", reached: Vec::new(), fault: found };
-    follow(programs, &picture, &mut outcome)?;
-    Ok(outcome)
+    let found = report::compare(&programs.write, &input, None, &wanted)?.then(|| match own {
+        true => Ok(()),
+        false => {
+            let text = "own writer makes other bodies".to_string();
+            Err(fault(text, vec![("input", input.clone())]))
+        }
+    });
+    follow(programs, &picture, Outcome { family: OTHER, reached: Vec::new(), found })
 }
