@@ -16,7 +16,7 @@ from sources import ROOT, bare, public_functions
 CLAIMS = ROOT / 'docs' / 'CLAIMS.md'
 REQUIRED = ROOT / '.ci' / 'required.txt'
 # Words of the language and of the second program that the index uses.
-WORDS = {'ensures', 'requires', 'header', 'sheets', 'pairs', 'write', 'selftest', 'pub', 'fn'}
+WORDS = {'ensures', 'requires', 'fact', 'header', 'sheets', 'pairs', 'write', 'selftest', 'pub', 'fn'}
 
 
 def listed_crates():
