@@ -5,13 +5,13 @@ use mathlib.Core.Path.{_≡_, refl, sym, _∙_, ap}
 use mathlib.Core.Bool.{cond}
 use mathlib.Core.List.{List, [], _∷_, _++_, append-assoc}
 use native.Mathlib.Omega.{arith}
-use lib.ListN.{length, getD, take, drop, set, length-append, length-replicate, getD-replicate, replicate-append-replicate, List·getD-append}
-use lib.Seq.{sets, getD-set-other, drop-at, take-append-seam}
+use lib.ListN.{length, getD, take, drop, length-append, length-replicate, getD-replicate, replicate-append-replicate, List·getD-append}
+use lib.Seq.{sets, drop-at, take-append-seam}
 use lib.Dec.{eqb, eqb·suc-zero}
 use borrow.Author.Tests.{eq-eqb, ne-eqb}
 use Rattle.units.specs.Counts.{bytesOfBlocks}
 use Rattle.units.specs.Over.{over, zeros}
-use Rattle.units.specs.laws.Over.{over-nil, over-fits, sets-part}
+use Rattle.units.specs.laws.Over.{over-nil, over-fits, sets-part, sets-misses}
 use Rattle.encode_header.specs.Picture.{Picture}
 use Rattle.encode_header.specs.Header.{oneFloat, blocksOf, tableArea, headerBytes, headerSize}
 use Rattle.encode_header.specs.Positions.{Entry, positions, Every, Stands, Misses, FieldsInPlace, AllFieldsInPlace}
@@ -45,12 +45,6 @@ area-put (x ∷ table) rest =
 abbrev placed : List Entry → List ℕ → List ℕ
 placed [] l = l
 placed (e ∷ es) l = placed es (sets l (e .at) (e .bytes))
-
-sets-misses : (l : List ℕ) (at : ℕ) (vs : List ℕ) (j : ℕ) → (at ≤ j → j < at + length vs → ⊥) → getD (sets l at vs) j 0 ≡ getD l j 0
-sets-misses l at [] j m = refl
-sets-misses l at (v ∷ vs) j m =
-    sets-misses (set l at v) (suc at) vs j (λ a b. m (omega arith) (omega arith))
-    ∙ getD-set-other l at j v 0 (λ e. m (omega arith) (omega arith))
 
 placed-misses : (es : List Entry) (l : List ℕ) (j : ℕ) → Every (Misses j) es → getD (placed es l) j 0 ≡ getD l j 0
 placed-misses [] l j m = refl

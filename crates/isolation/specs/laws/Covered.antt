@@ -11,6 +11,7 @@ use lib.Dec.{ltb, leb}
 use borrow.Author.Tests.{ltb-true, ltb-false, leb-true, leb-false}
 use Rattle.units.specs.Over.{zeros}
 use Rattle.units.specs.laws.Numbers.{below-next}
+use Rattle.units.specs.laws.Over.{sets-misses}
 use Rattle.layout.specs.Chain.{Raster, sheetOf, start, bodyAt}
 use Rattle.isolation.specs.Statement.{InBody, ChangedInBodies}
 use Rattle.isolation.specs.Covered.{withBodyByte, blanked, Covered, AllCovered, ChangedAgain}
@@ -39,11 +40,9 @@ zero-set l at = go (ltb at (length l)) refl
     go false e = rw (set-out l at 0 (ltb-false at (length l) e)) (List·getD-eq-default l 0 (ltb-false at (length l) e))
 
 zeros-outside : (n : ℕ) (l : List ℕ) (at i : ℕ) → (i < at) ⊎ (at + n ≤ i) → getD (sets l at (zeros n)) i 0 ≡ getD l i 0
-zeros-outside zero l at i h = refl
-zeros-outside (suc n) l at i (inl h) =
-    zeros-outside n (set l at 0) (suc at) i (inl (omega arith)) ∙ getD-set-other l at i 0 0 (λ e. omega arith)
-zeros-outside (suc n) l at i (inr h) =
-    zeros-outside n (set l at 0) (suc at) i (inr (omega arith)) ∙ getD-set-other l at i 0 0 (λ e. omega arith)
+zeros-outside n l at i h =
+    sets-misses l at (zeros n) i
+    (λ a b. elim h [ inl u ↦ omega arith | inr u ↦ omega (arith, length-replicate {A = ℕ} n 0) ])
 
 zeros-inside : (n : ℕ) (l : List ℕ) (at i : ℕ) → at ≤ i → i < at + n → getD (sets l at (zeros n)) i 0 ≡ 0
 zeros-inside zero l at i h u = absurd (omega arith)

@@ -10,7 +10,7 @@ use lib.ListN.{length, getD, take, drop, set, drop-of-length-le}
 use lib.Dec.{ltb}
 use borrow.Author.Tests.{ltb-true, ltb-false}
 use native.Mathlib.Numerals.{add-one}
-use lib.Seq.{sets, set-out, take-nil, take-all, drop-cons}
+use lib.Seq.{sets, set-out, getD-set-other, take-nil, take-all, drop-cons}
 use Rattle.units.specs.Over.{over}
 
 pub sets-append : (l : List ℕ) (i : ℕ) (a b : List ℕ) → sets l i (a ++ b) ≡ sets (sets l i a) (i + length a) b
@@ -22,6 +22,13 @@ sets-append l i (x ∷ a) b =
 pub sets-past : (l : List ℕ) (i : ℕ) (vs : List ℕ) → length l ≤ i → sets l i vs ≡ l
 sets-past l i [] h = refl
 sets-past l i (x ∷ vs) h = rw (set-out l i x h) (sets-past l (suc i) vs (omega arith))
+
+-- a place that no store meets is as it was
+pub sets-misses : (l : List ℕ) (at : ℕ) (vs : List ℕ) (j : ℕ) → (at ≤ j → j < at + length vs → ⊥) → getD (sets l at vs) j 0 ≡ getD l j 0
+sets-misses l at [] j m = refl
+sets-misses l at (v ∷ vs) j m =
+    sets-misses (set l at v) (suc at) vs j (λ a b. m (omega arith) (omega arith))
+    ∙ getD-set-other l at j v 0 (λ e. m (omega arith) (omega arith))
 
 sets-cons : (x : ℕ) (l : List ℕ) (i : ℕ) (vs : List ℕ) → sets (x ∷ l) (suc i) vs ≡ x ∷ sets l i vs
 sets-cons x l i [] = refl
