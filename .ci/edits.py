@@ -19,7 +19,7 @@ TRIED = ROOT / 'target' / 'must-fail'
 LINES = ('# ', 'fact: ', 'file: ', 'old: ', 'new: ')
 COMPARISONS = {'lt', 'le', 'gt', 'ge', 'eq', 'ne'}
 # What the prover says where a proof does not fit the code any more.
-UNFIT = re.compile(r'has no `?Need-|(expected|has) type `(tie\.)?Need-|no field `|takes (more|fewer) arguments|too many arguments')
+UNFIT = re.compile(r'has no `?Need-|(expected|has) type `(tie\.)?Need-|no field `|takes (more|fewer) arguments|too many arguments|λ has \d+ binder')
 
 
 def faults_of_text(text):

@@ -79,6 +79,7 @@ REFUSED = '/t/must-fail/units/label/proofs/u16_at/Proof.antt:10:13: error: `retu
 RESTS = '/t/must-fail/units/label/proofs/u16_at/Proof.antt:9:1: error: `spec`: `returns` was not admitted (it has holes)\n'
 UNFIT = '/t/must-fail/units/label/proofs/u16_at/Proof.antt:10:13: error: `returns`: `tie` has no `Need-returns-2` that can be named from here\n'
 SHIFTED = '/t/must-fail/units/label/proofs/u16_at/Proof.antt:10:13: error: `returns`: expected type `tie.Need-add`, but this has type `tie.Need-returns`\n'
+BINDERS = '/t/must-fail/units/label/proofs/u16_at/Proof.antt:69:10: error: `u16-at-spec`: this λ has 2 binders, but its type has room for only 1\n'
 DEFINED = '/t/must-fail/units/label/specs/Counts.antt:10:13: error: `returns`: for a numeral, use it as an argument\n'
 UNPROVED = 'fn units::little_endian::u16_at: no proof: expected `u16-at-spec` in F; `search` does not close `returns`\n'
 
@@ -90,6 +91,7 @@ LOGS = [
     ('no refusal', 'logic=proved\n', 'u16_at returns', 'no refusal'),
     ('a proof that names other needs', UNFIT, 'u16_at returns', 'does not fit'),
     ('a proof that is shifted', SHIFTED, 'u16_at returns', 'does not fit'),
+    ('a proof with other parts', BINDERS, 'u16_at u16-at-spec', 'does not fit'),
     ('a definition that is refused', DEFINED, 'specs/Counts.antt returns', 'itself is refused'),
 ]
 
