@@ -91,6 +91,9 @@ def shape(node):
         return '_'
     if isinstance(node[0], str) and node[0] in COMPARISONS:
         return 'comparison'
+    if node[0] == 'arm':
+        # the numbers that an arm of a `match` is for
+        node = ['arm', '_', *node[2:]]
     return ['_' if child in ('true', 'false') else shape(child) for child in node]
 
 

@@ -102,10 +102,11 @@ TEXTS = [
 ]
 
 # Code in steps, and another: whether the shape is the same.
-STEPS = '(if (op2 (lt unsigned) (copy (place 1 lnil)) (int 64 5)) (call f (copy (place 2 lnil))) skip)'
+STEPS = '(if (op2 (lt unsigned) (copy (place 1 lnil)) (int 64 5)) (call f (copy (place 2 lnil))) (arm (lcons 9 lnil) skip))'
 SHAPES = [
     ('another operand', STEPS.replace('place 1', 'place 3'), True),
     ('another constant', STEPS.replace('64 5', '64 6'), True),
+    ('another arm', STEPS.replace('lcons 9', 'lcons 8'), True),
     ('another comparison', STEPS.replace('lt', 'le'), True),
     ('another call', STEPS.replace('call f', 'call g'), False),
     ('a step more', STEPS.replace('(int 64 5)', '(op2 (add unsigned) (int 64 5) (int 64 1))'), False),
