@@ -8,6 +8,8 @@ right the program was.
 An edit's file has a comment, a line `fact: PLACE NAME`, and then `file:`, `old:` and `new:` lines. PLACE is a function, as
 `module/function`, or a file of laws, as `specs/laws/Law.antt`; NAME is the need or the law that is refused first.
 """
+import concurrent.futures
+import os
 import pathlib
 import re
 import subprocess
@@ -18,6 +20,7 @@ ROOT = pathlib.Path(__file__).resolve().parent.parent
 TRIED = ROOT / 'target' / 'must-fail'
 LINES = ('# ', 'fact: ', 'file: ', 'old: ', 'new: ')
 COMPARISONS = {'lt', 'le', 'gt', 'ge', 'eq', 'ne'}
+LEAVES = {'true': '_', 'false': '_', 'eq': 'comparison', 'ne': 'comparison'}
 # What the prover says where a proof does not fit the code any more.
 UNFIT = re.compile(r'has no `?Need-|(expected|has) type `(tie\.)?Need-|no field `|takes (more|fewer) arguments|too many arguments|λ has \d+ binder')
 
@@ -94,7 +97,7 @@ def shape(node):
     if node[0] == 'arm':
         # the numbers that an arm of a `match` is for
         node = ['arm', '_', *node[2:]]
-    return ['_' if child in ('true', 'false') else shape(child) for child in node]
+    return [LEAVES.get(child, child) if isinstance(child, str) else shape(child) for child in node]
 
 
 def functions(crates, crate):
@@ -153,10 +156,11 @@ def check(path):
 def main():
     edits = sorted((ROOT / 'crates').glob('*/must-fail/*.edit'))
     bad = 0
-    for path in edits:
-        for fault in check(path):
-            bad += 1
-            print(f'{path.parent.parent.name}/{path.stem}: {fault}')
+    with concurrent.futures.ThreadPoolExecutor(os.cpu_count()) as pool:
+        for path, faults in zip(edits, pool.map(lambda path: list(check(path)), edits)):
+            for fault in faults:
+                bad += 1
+                print(f'{path.parent.parent.name}/{path.stem}: {fault}')
     logs = len(list(TRIED.glob('*/*/.log')))
     if logs != len(edits):
         bad += 1

@@ -108,6 +108,7 @@ SHAPES = [
     ('another constant', STEPS.replace('64 5', '64 6'), True),
     ('another arm', STEPS.replace('lcons 9', 'lcons 8'), True),
     ('another comparison', STEPS.replace('lt', 'le'), True),
+    ('another kind of comparison', STEPS.replace('(lt unsigned)', 'ne'), True),
     ('another call', STEPS.replace('call f', 'call g'), False),
     ('a step more', STEPS.replace('(int 64 5)', '(op2 (add unsigned) (int 64 5) (int 64 1))'), False),
     ('a step less', STEPS.replace('(call f (copy (place 2 lnil)))', 'skip'), False),
