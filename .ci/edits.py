@@ -9,12 +9,14 @@ An edit's file has a comment, a line `fact: PLACE NAME`, and then `file:`, `old:
 `module/function`, or a file of laws, as `specs/laws/Law.antt`; NAME is the need or the law that is refused first.
 """
 import concurrent.futures
+import functools
 import os
 import pathlib
 import re
 import subprocess
 import sys
 import tempfile
+import threading
 
 ROOT = pathlib.Path(__file__).resolve().parent.parent
 TRIED = ROOT / 'target' / 'must-fail'
@@ -100,9 +102,20 @@ def shape(node):
     return [LEAVES.get(child, child) if isinstance(child, str) else shape(child) for child in node]
 
 
-def functions(crates, crate):
-    """The shape of each function of a crate, from its code in steps."""
-    run = subprocess.run(['rt', 'mir', crate], cwd=crates.parent, capture_output=True, text=True)
+@functools.cache
+def functions(crate, stand_in=None):
+    """The shape of each function of a crate, from its code in steps; of an edited crate, which stands in for its original among
+    the others. Each run has a folder for logs of its own, so that several can go on side by side."""
+    with tempfile.TemporaryDirectory() as room:
+        root = pathlib.Path(room)
+        (root / 'crates').mkdir()
+        (root / 'target' / 'log').mkdir(parents=True)
+        for other in (ROOT / 'crates').iterdir():
+            (root / 'crates' / other.name).symlink_to(stand_in if stand_in and other.name == crate else other)
+        (root / 'crates.txt').symlink_to(ROOT / 'crates.txt')
+        for part in ('rlib', 'stamp'):
+            (root / 'target' / part).symlink_to(ROOT / 'target' / part)
+        run = subprocess.run(['rt', 'mir', crate], cwd=root, capture_output=True, text=True)
     start = run.stdout.find('program ')
     if run.returncode != 0 or start < 0:
         raise SystemExit(f'rt mir {crate}: {run.stdout[-300:]} {run.stderr[-300:]}')
@@ -115,26 +128,14 @@ def functions(crates, crate):
             for child in node:
                 collect(child)
 
-    sys.setrecursionlimit(100000)
     collect(tree(run.stdout[start:]))
     return found
 
 
 def other_shapes(crate, edited):
-    """The functions whose shape an edit changes. The edited crate stands in for its original among the others."""
-    with tempfile.TemporaryDirectory() as room:
-        root = pathlib.Path(room)
-        (root / 'crates').mkdir()
-        for other in (ROOT / 'crates').iterdir():
-            (root / 'crates' / other.name).symlink_to(edited if other.name == crate else other)
-        (root / 'crates.txt').symlink_to(ROOT / 'crates.txt')
-        (root / 'target').symlink_to(ROOT / 'target')
-        now = functions(root / 'crates', crate)
-    before = ORIGINAL.setdefault(crate, functions(ROOT / 'crates', crate))
+    """The functions whose shape an edit changes."""
+    before, now = functions(crate), functions(crate, edited)
     return sorted(name for name in before.keys() | now.keys() if before.get(name) != now.get(name))
-
-
-ORIGINAL = {}
 
 
 def check(path):
@@ -156,6 +157,9 @@ def check(path):
 def main():
     edits = sorted((ROOT / 'crates').glob('*/must-fail/*.edit'))
     bad = 0
+    # Code in steps is nested deeply.
+    sys.setrecursionlimit(100000)
+    threading.stack_size(1 << 28)
     with concurrent.futures.ThreadPoolExecutor(os.cpu_count()) as pool:
         for path, faults in zip(edits, pool.map(lambda path: list(check(path)), edits)):
             for fault in faults:
