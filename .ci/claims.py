@@ -104,9 +104,19 @@ def names():
     return found
 
 
+def fields():
+    """The fields of each record, by its name."""
+    found = {}
+    for path in ROOT.glob('crates/*/specs/**/*.antt'):
+        text = bare(path.read_text(), '--')
+        for name, block in re.findall(r'^ *(?:pub )?record (\w+)[^\n]* where\n((?: +[^\n]*\n|\n(?= ))*)', text, re.M):
+            found.setdefault(name, set()).update(re.findall(r'^ *(?:pub )?([^\s:(){}]+) :', block, re.M))
+    return found
+
+
 def cited():
     """What the index names and the tree lacks, and edits that the index does not name."""
-    crates, known = listed_crates(), names()
+    crates, known, records = listed_crates(), names(), fields()
     tokens = set(re.findall(r'`([^`]+)`', CLAIMS.read_text()))
     for token in sorted(tokens):
         place = re.fullmatch(r'(\w+)/((?:laws/)?\w+)', token)
@@ -119,6 +129,9 @@ def cited():
         elif '/' in token:
             if not re.search(r'NAME|FILE', token) and not (ROOT / token).exists():
                 yield f'no path {token}'
+        elif clause := re.fullmatch(r'([A-Z]\w*)\.([\w-]+)', token):
+            if clause[2] not in records.get(clause[1], ()):
+                yield f'{clause[1]} has no clause {clause[2]}'
         else:
             for word in re.findall(r"[^\W\d][\w'-]*(?<!-)", token):
                 if len(word) > 1 and word not in known:

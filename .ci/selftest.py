@@ -51,6 +51,7 @@ BODY = '{\n    v\n}\n'
 CASES = [
     ('no ensures', 'promises', 'no ensures', lambda t: add_function(t, PLAIN + BODY)),
     ('an ensures in a comment', 'promises', 'no ensures', lambda t: add_function(t, PLAIN + '    // ensures { λ r. ⌜ r ≡ v ⌝ }\n' + BODY)),
+    ('an ensures in a comment of more lines', 'promises', 'no ensures', lambda t: add_function(t, PLAIN + '    /* of the answer:\n    ensures { λ r. ⌜ r ≡ v ⌝ } */\n' + BODY)),
     ('an ensures that says nothing', 'promises', 'no ensures', lambda t: add_function(t, PLAIN + '    ensures { λ r. ⊤ₛ }\n' + BODY)),
     ('a buffer without a word', 'promises', 'what row holds', lambda t: add_function(t, PLAIN + KEEPS + BODY)),
     ('an answer without a word', 'promises', 'speaks of the answer', lambda t: add_function(t, PLAIN + LEAVES + BODY)),
@@ -68,6 +69,8 @@ CASES = [
     ('a theorem that nobody lists', 'claims', 'the theorem other : Demand3', lambda t: (t / 'crates/isolation/specs/laws/Law.antt').open('a').write('\npub other : Demand3\nother = isolated\n')),
     ('a promise weakened', 'claims', 'does not name marksAfter', lambda t: put(t / 'crates/decode_raster/src/lib.rt', '≡ marksAfter (now', '≡ pixelsAfter (now')),
     ('a label dropped', 'claims', 'does not name demand_3', lambda t: put(t / 'crates/two_readings/src/lib.rt', 'ensures demand_3 {', 'ensures {')),
+    ('a clause of demand 3 dropped', 'claims', 'OneReading has no clause good', lambda t: remove_line(t / 'crates/isolation/specs/Statement.antt', '  pub good :')),
+    ('a clause of the bytes written dropped', 'claims', 'FieldsInPlace has no clause matrix', lambda t: remove_line(t / 'crates/encode_header/specs/Positions.antt', '  pub matrix :')),
     ('a crate deleted with its line', 'claims', 'crate text: in crates.txt or', drop_crate),
     ('an edit deleted', 'claims', 'no edit isolation/nothing_may_change', lambda t: (t / 'crates/isolation/must-fail/nothing_may_change.edit').unlink()),
     ('an edit deleted with its mention', 'claims', 'edits, and', drop_edit),

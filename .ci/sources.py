@@ -27,6 +27,7 @@ def specs():
 def bare(text, comment):
     """A text without its comments, and without what stands between quotes, line by line as it was."""
     text = re.sub(rf'{comment}[^\n]*', '', text)
+    text = re.sub(r'/\*.*?\*/', lambda found: '\n' * found[0].count('\n'), text, flags=re.S)
     return re.sub(r'b?"(?!C")[^"\n]*"', '""', text)
 
 
