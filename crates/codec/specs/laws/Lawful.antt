@@ -1,7 +1,7 @@
 -- What the reading of a scanline needs of a codec, and that every codec has it.
 use Prim.Native.Nat.{ℕ, _+_, _-_, _%_, _≤_}
 use mathlib.Core.Path.{_≡_, refl, sym, _∙_, ap}
-use mathlib.Core.Bool.{Bool, true, false, cond, _&&_, false≢true}
+use mathlib.Core.Bool.{Bool, true, false, not, cond, _&&_, false≢true}
 use mathlib.Core.List.{List, [], _∷_}
 use native.Mathlib.Omega.{arith}
 use lib.ListN.{length, take}
@@ -89,69 +89,56 @@ word-pixels =
       settled = words-settled;
     }
 
--- runs and pairs, by the tests in their order
-good-if : (a b : Bool) (n : ℕ) (rest : Extent) → (rest .lost ≡ false → rest .status ≡ 0)
-    → cond a (fault 7) (cond b (taken n) rest) .lost ≡ false → cond a (fault 7) (cond b (taken n) rest) .status ≡ 0
-good-if true b n rest ih h = absurd (false≢true (sym h))
-good-if false true n rest ih h = refl
-good-if false false n rest ih h = ih h
+-- An extent that is lost exactly where it has a fault: runs and pairs, by the tests in their order.
+abbrev FaultLoses : Extent → Type 0
+FaultLoses e = e .lost ≡ not (eqb (e .status) 0)
 
-kept-if : (a b : Bool) (n : ℕ) (rest : Extent) → (rest .status ≡ 0 → rest .lost ≡ false)
-    → cond a (fault 7) (cond b (taken n) rest) .status ≡ 0 → cond a (fault 7) (cond b (taken n) rest) .lost ≡ false
-kept-if true b n rest ih h = absurd (omega arith)
-kept-if false true n rest ih h = refl
-kept-if false false n rest ih h = ih h
+tests-lose : (a b : Bool) (n : ℕ) (rest : Extent) → FaultLoses rest → FaultLoses (cond a (fault 7) (cond b (taken n) rest))
+tests-lose true b n rest ih = refl
+tests-lose false true n rest ih = refl
+tests-lose false false n rest ih = ih
 
-runs-good : (v left : ℕ) (ws : List ℕ) (used : ℕ) → runsFrom v left ws used .lost ≡ false → runsFrom v left ws used .status ≡ 0
+kept-good : (e : Extent) → FaultLoses e → e .lost ≡ false → e .status ≡ 0
+kept-good e f h = eqb-true (e .status) 0 (not-false (eqb (e .status) 0) (sym f ∙ h))
+
+good-keeps : (e : Extent) → FaultLoses e → e .status ≡ 0 → e .lost ≡ false
+good-keeps e f h = f ∙ rw h
+
+runs-lose : (v left : ℕ) (ws : List ℕ) (used : ℕ) → FaultLoses (runsFrom v left ws used)
 unfolding runsFrom
-runs-good v left [] used h = absurd (false≢true (sym h))
-runs-good v left (n ∷ ws) used h =
-    good-if (ltb left n) (eqb v 0 && eqb left n) (used + wordBytes 1) (runsFrom (1 - v) (left - n) ws (used + wordBytes 1))
-    (runs-good (1 - v) (left - n) ws (used + wordBytes 1)) h
-
-runs-kept : (v left : ℕ) (ws : List ℕ) (used : ℕ) → runsFrom v left ws used .status ≡ 0 → runsFrom v left ws used .lost ≡ false
-unfolding runsFrom
-runs-kept v left [] used h = absurd (omega arith)
-runs-kept v left (n ∷ ws) used h =
-    kept-if (ltb left n) (eqb v 0 && eqb left n) (used + wordBytes 1) (runsFrom (1 - v) (left - n) ws (used + wordBytes 1))
-    (runs-kept (1 - v) (left - n) ws (used + wordBytes 1)) h
+runs-lose v left [] used = refl
+runs-lose v left (n ∷ ws) used =
+    tests-lose (ltb left n) (eqb v 0 && eqb left n) (used + wordBytes 1) (runsFrom (1 - v) (left - n) ws (used + wordBytes 1))
+    (runs-lose (1 - v) (left - n) ws (used + wordBytes 1))
 
 runs : Lawful runCodec
 runs =
     record {
       full = λ b p h. length-runPixels 0 (words b) ∙ status-total b p h;
-      within = λ r p h. extent-within r p (runExtent r p) refl (runs-good 0 p (words r) 0 h);
+      within = λ r p h. extent-within r p (runExtent r p) refl (kept-good (runExtent r p) (runs-lose 0 p (words r) 0) h);
       taken-full =
           λ r p h. length-runPixels 0 (words (take (runExtent r p .used .0) r)) ∙ extent-total r p (runExtent r p) refl h;
-      good-kept = λ r p h. runs-kept 0 p (words r) 0 h;
+      good-kept = λ r p h. good-keeps (runExtent r p) (runs-lose 0 p (words r) 0) h;
       settled = runs-settled;
     }
 
-pairs-good : (left : ℕ) (ws : List ℕ) (used : ℕ) → pairsFrom left ws used .lost ≡ false → pairsFrom left ws used .status ≡ 0
+pairs-lose : (left : ℕ) (ws : List ℕ) (used : ℕ) → FaultLoses (pairsFrom left ws used)
 unfolding pairsFrom
-pairs-good left [] used h = absurd (false≢true (sym h))
-pairs-good left (v ∷ []) used h = absurd (false≢true (sym h))
-pairs-good left (v ∷ (n ∷ ws)) used h =
-    good-if (ltb left n) (eqb left n) (used + wordBytes 2) (pairsFrom (left - n) ws (used + wordBytes 2))
-    (pairs-good (left - n) ws (used + wordBytes 2)) h
-
-pairs-kept : (left : ℕ) (ws : List ℕ) (used : ℕ) → pairsFrom left ws used .status ≡ 0 → pairsFrom left ws used .lost ≡ false
-unfolding pairsFrom
-pairs-kept left [] used h = absurd (omega arith)
-pairs-kept left (v ∷ []) used h = absurd (omega arith)
-pairs-kept left (v ∷ (n ∷ ws)) used h =
-    kept-if (ltb left n) (eqb left n) (used + wordBytes 2) (pairsFrom (left - n) ws (used + wordBytes 2))
-    (pairs-kept (left - n) ws (used + wordBytes 2)) h
+pairs-lose left [] used = refl
+pairs-lose left (v ∷ []) used = refl
+pairs-lose left (v ∷ (n ∷ ws)) used =
+    tests-lose (ltb left n) (eqb left n) (used + wordBytes 2) (pairsFrom (left - n) ws (used + wordBytes 2))
+    (pairs-lose (left - n) ws (used + wordBytes 2))
 
 pairs : Lawful pairCodec
 pairs =
     record {
       full = λ b p h. length-pairPixels (words b) ∙ pairs-fit b p h;
-      within = λ r p h. pairs-taken r p (pairExtent r p) refl (pairs-good p (words r) 0 h) .0;
+      within = λ r p h. pairs-taken r p (pairExtent r p) refl (kept-good (pairExtent r p) (pairs-lose p (words r) 0) h) .0;
       taken-full =
           λ r p h.
           length-pairPixels (words (take (pairExtent r p .used .0) r)) ∙ pairs-taken r p (pairExtent r p) refl h .1;
-      good-kept = λ r p h. pairs-kept p (words r) 0 h;
+      good-kept = λ r p h. good-keeps (pairExtent r p) (pairs-lose p (words r) 0) h;
       settled = pairs-settled;
     }
 
