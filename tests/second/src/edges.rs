@@ -1,8 +1,9 @@
-//! "Sheets at the edges": inputs and outcomes written out by hand.
+//! "Sheets at the edges", and a sheet turned: inputs and outcomes written out by hand.
 
 use crate::gen::picture::Picture;
 use crate::gen::put;
 use crate::gen::sheet::words;
+use crate::gen::turning::Turning;
 
 pub struct Edge {
     pub name: &'static str,
@@ -275,4 +276,75 @@ pub fn written_edges() -> Vec<WrittenEdge> {
     printed.extend([FILL; 133_000]);
     all.push(WrittenEdge { name: "14: 65,534 words", picture, printed });
     all
+}
+
+/// A turning and all that the turning program prints for it.
+pub struct TurnedEdge {
+    pub name: String,
+    pub turning: Turning,
+    pub printed: Vec<u8>,
+}
+
+/// The sheet whose lines are 1 2 3 and 4 5 6, upright, for SLO from 0 to 7.
+const UPRIGHT: [&str; 8] = [
+    "1 4 / 2 5 / 3 6",
+    "4 1 / 5 2 / 6 3",
+    "3 6 / 2 5 / 1 4",
+    "6 3 / 5 2 / 4 1",
+    "1 2 3 / 4 5 6",
+    "3 2 1 / 6 5 4",
+    "4 5 6 / 1 2 3",
+    "6 5 4 / 3 2 1",
+];
+
+/// What the two pixels hold that the buffer filled has to spare.
+const STAYS: u16 = 0xBEEF;
+
+/// That sheet, one way and the other, and calls for it that are refused.
+pub fn turned_edges() -> Vec<TurnedEdge> {
+    let sheet = vec![1, 2, 3, 4, 5, 6];
+    let mut all = Vec::new();
+    for (slo, picture) in UPRIGHT.iter().enumerate() {
+        let rows: Vec<Vec<u16>> = picture.split(" / ").map(numbers).collect();
+        let head = format!("turned {} {}\n", rows[0].len(), rows.len());
+        let picture = rows.concat();
+        let mut add = |way, name: &str, from: &[u16], to: &[u16]| {
+            let turning = small(way, slo as u32, from.to_vec());
+            let printed = printed(&head, &[to, &[STAYS, STAYS]].concat());
+            all.push(TurnedEdge { name: format!("{name}, SLO {slo}"), turning, printed });
+        };
+        add(0, "upright", &sheet, &picture);
+        add(1, "back", &picture, &sheet);
+    }
+    for way in [0, 1] {
+        let plain = small(way, 0, sheet.clone());
+        let short = Turning { pixels: sheet[..5].to_vec(), ..plain.clone() };
+        for (name, turning, head) in [
+            ("SLO 8", Turning { slo: 8, ..plain.clone() }, "refused 17\n"),
+            ("PPL 0", Turning { ppl: 0, ..plain.clone() }, "refused 19\n"),
+            ("PPL 65,539", Turning { ppl: 65_539, ..plain.clone() }, "refused 19\n"),
+            ("NOL 0", Turning { nol: 0, ..plain.clone() }, "refused 20\n"),
+            ("NOL 65,538", Turning { nol: 65_538, ..plain.clone() }, "refused 20\n"),
+            ("five pixels to be read", short.clone(), "refused 23\n"),
+            ("five pixels to be filled", Turning { room: 5, ..plain }, "refused 31\n"),
+            ("five pixels each", Turning { room: 5, ..short }, "refused 23\n"),
+        ] {
+            let printed = printed(head, &vec![STAYS; turning.room as usize]);
+            all.push(TurnedEdge { name: name.to_string(), turning, printed });
+        }
+    }
+    all
+}
+
+fn numbers(text: &str) -> Vec<u16> {
+    text.split(' ').map(|word| word.parse().expect("a picture is of numbers")).collect()
+}
+
+/// A turning of two lines of three pixels, with two pixels of room to spare.
+fn small(way: u32, slo: u32, pixels: Vec<u16>) -> Turning {
+    Turning { way, slo, ppl: 3, nol: 2, pixels, room: 8, fill: u32::from(STAYS) }
+}
+
+fn printed(head: &str, filled: &[u16]) -> Vec<u8> {
+    [head.as_bytes(), &words(filled)].concat()
 }

@@ -2,23 +2,40 @@
 //! They show that a mode passes a right program and catches a wrong one; nothing more, since
 //! they are the model.
 
-use crate::model::probe;
+use crate::model::{long, probe};
 use std::io::{self, Read, Write};
 use std::time::Duration;
 
-/// A defect: what it does to the input before the right program, and to the output after it.
 struct Defect {
     name: &'static str,
-    before: fn(&mut Vec<u8>),
-    after: fn(&mut Vec<u8>),
+    change: Change,
 }
 
-const fn before(name: &'static str, before: fn(&mut Vec<u8>)) -> Defect {
-    Defect { name, before, after: |_| {} }
+/// What a defect does.
+enum Change {
+    /// To the input, before the right program.
+    Before(fn(&mut Vec<u8>)),
+    /// To the output, after it.
+    After(fn(&mut Vec<u8>)),
+    /// To a call of the turning program that is not refused, or is.
+    Turned(fn(&mut Call)),
+    Refused(fn(&mut Call)),
 }
 
-const fn after(name: &'static str, after: fn(&mut Vec<u8>)) -> Defect {
-    Defect { name, before: |_| {}, after }
+const fn before(name: &'static str, change: fn(&mut Vec<u8>)) -> Defect {
+    Defect { name, change: Change::Before(change) }
+}
+
+const fn after(name: &'static str, change: fn(&mut Vec<u8>)) -> Defect {
+    Defect { name, change: Change::After(change) }
+}
+
+const fn turned(name: &'static str, change: fn(&mut Call)) -> Defect {
+    Defect { name, change: Change::Turned(change) }
+}
+
+const fn refused(name: &'static str, change: fn(&mut Call)) -> Defect {
+    Defect { name, change: Change::Refused(change) }
 }
 
 const HEADER: [Defect; 9] = [
@@ -96,6 +113,73 @@ const WRITE: [Defect; 7] = [
     after("refuses-all", |out| *out = b"refused 16\n".to_vec()),
 ];
 
+const TURN: [Defect; 16] = [
+    // Bits 0 and 1 exchanged.
+    before("corners-exchanged", |input| {
+        if let Some(slo) = input.get_mut(4) {
+            *slo = *slo & !3 | *slo >> 1 & 1 | (*slo & 1) << 1;
+        }
+    }),
+    // Bit 2 read the wrong way round.
+    before("rows-for-columns", |input| {
+        if let Some(slo) = input.get_mut(4) {
+            *slo ^= 4;
+        }
+    }),
+    before("back-as-upright", |input| keep(input, 0, 0xFE)),
+    // Unused bits of SLO let pass.
+    before("slo-bits", |input| keep(input, 4, 7)),
+    // PPL and NOL taken as 16 bits.
+    before("ppl-word", |input| [10, 11].iter().for_each(|&at| keep(input, at, 0))),
+    before("nol-word", |input| [14, 15].iter().for_each(|&at| keep(input, at, 0))),
+    // The columns of a mirrored picture counted from its width, not from one less.
+    turned("mirror-off-by-one", |call| {
+        if call.slo & 1 == 1 && !call.back {
+            let width = call.width;
+            call.picture().chunks_mut(width).for_each(|row| row.rotate_right(1));
+        }
+    }),
+    turned("copies", |call| {
+        let size = call.picture().len();
+        call.filled[..size].copy_from_slice(&call.read[..size]);
+    }),
+    // Every place filled from one pixel.
+    turned("one-pixel", |call| {
+        let pixel = call.read[0];
+        call.picture().fill(pixel);
+    }),
+    turned("clears-surplus", |call| {
+        let size = call.picture().len();
+        call.filled[size..].fill(0);
+    }),
+    // Bands of 32 rows, and one row more forgotten.
+    turned("band-of-one-row", |call| {
+        if call.height > 1 && call.height % 32 == 1 {
+            let (fill, above) = (call.fill, (call.height - 1) * call.width);
+            call.picture()[above..].fill(fill);
+        }
+    }),
+    turned("sides-exchanged-back", |call| {
+        if call.back {
+            call.head = format!("turned {} {}", call.height, call.width);
+        }
+    }),
+    refused("31-before-23", |call| {
+        if call.head == "refused 23" && (call.filled.len() as u64) < call.needed {
+            call.head = "refused 31".to_string();
+        }
+    }),
+    // What there is room for filled, and then refused.
+    refused("31-half-done", |call| {
+        if call.head == "refused 31" {
+            let count = call.filled.len();
+            call.filled.copy_from_slice(&call.read[..count]);
+        }
+    }),
+    after("no-newline", |out| out.truncate(out.len() - 1)),
+    after("refuses-all", |out| *out = b"refused 17\n".to_vec()),
+];
+
 /// Masks one byte, if the file has it.
 fn keep(file: &mut [u8], at: usize, bits: u8) {
     if let Some(place) = file.get_mut(at) {
@@ -151,12 +235,65 @@ fn rows(output: &mut Vec<u8>, chosen: fn(&Row) -> bool, change: fn(&mut Row)) {
     *output = text.into_bytes();
 }
 
+/// What the turning program was asked, and what it printed.
+struct Call {
+    back: bool,
+    slo: u64,
+    /// PPL x NOL.
+    needed: u64,
+    read: Vec<u16>,
+    fill: u16,
+    /// The first line, without its end.
+    head: String,
+    /// Of the upright picture; 0 where it is refused.
+    width: usize,
+    height: usize,
+    filled: Vec<u16>,
+}
+
+impl Call {
+    /// Pixels that were filled.
+    fn picture(&mut self) -> &mut [u16] {
+        &mut self.filled[..self.width * self.height]
+    }
+}
+
+/// Changes a call of the turning program whose output starts so.
+fn calls(input: &[u8], output: &mut Vec<u8>, start: &str, change: fn(&mut Call)) {
+    if !output.starts_with(start.as_bytes()) {
+        return;
+    }
+    let end = output.iter().position(|&byte| byte == b'\n').expect("output has a line");
+    let head = String::from_utf8_lossy(&output[..end]).into_owned();
+    let numbers: Vec<usize> = head.split(' ').filter_map(|word| word.parse().ok()).collect();
+    let (width, height) = match numbers[..] {
+        [width, height] => (width, height),
+        _ => (0, 0),
+    };
+    let [way, slo, ppl, nol, _, _, fill] = [0, 1, 2, 3, 4, 5, 6].map(|i| long(input, 4 * i));
+    let mut call = Call {
+        back: way == 1,
+        slo,
+        needed: ppl * nol,
+        read: probe::pixels_of(&input[probe::TURN_NUMBERS..]),
+        fill: fill as u16,
+        head,
+        width,
+        height,
+        filled: probe::pixels_of(&output[end + 1..]),
+    };
+    change(&mut call);
+    *output = format!("{}\n", call.head).into_bytes();
+    output.extend(call.filled.iter().flat_map(|pixel| pixel.to_le_bytes()));
+}
+
 type Program = fn(&[u8]) -> Vec<u8>;
 
-const KINDS: [(&str, Program, &[Defect]); 3] = [
+const KINDS: [(&str, Program, &[Defect]); 4] = [
     ("header", probe::header, &HEADER),
     ("listing", probe::listing, &LISTING),
     ("write", probe::write, &WRITE),
+    ("turn", probe::turn, &TURN),
 ];
 
 /// Each stand-in with the names of its defects.
@@ -179,12 +316,16 @@ pub fn play(name: &str) -> bool {
     }
     let mut input = Vec::new();
     io::stdin().read_to_end(&mut input).expect("standard input can be read");
-    if let Some(defect) = defect {
-        (defect.before)(&mut input);
+    let change = defect.map(|defect| &defect.change);
+    if let Some(Change::Before(change)) = change {
+        change(&mut input);
     }
     let mut output = program(&input);
-    if let Some(defect) = defect {
-        (defect.after)(&mut output);
+    match change {
+        Some(Change::After(change)) => change(&mut output),
+        Some(Change::Turned(change)) => calls(&input, &mut output, "turned ", *change),
+        Some(Change::Refused(change)) => calls(&input, &mut output, "refused ", *change),
+        Some(Change::Before(_)) | None => {}
     }
     // Whoever closed the pipe wants no more.
     let _ = io::stdout().write_all(&output);

@@ -22,10 +22,11 @@ const USAGE: &str = "usage:
   second sheets --probe PROGRAM [--peer DIR] [FLAGS]
   second pairs --probe PROGRAM [FLAGS]
   second write --probe PROGRAM --listing PROGRAM --header PROGRAM [--peer DIR] [FLAGS]
+  second turn --probe PROGRAM [FLAGS]
   second selftest
 FLAGS: [--count N] [--seed S] [--patience MILLISECONDS] [--first N] [--until-fault]";
 
-const MODES: [&str; 5] = ["header", "sheets", "pairs", "write", "selftest"];
+const MODES: [&str; 6] = ["header", "sheets", "pairs", "write", "turn", "selftest"];
 const FLAGS: [&str; 6] = ["probe", "count", "seed", "patience", "first", "until-fault"];
 
 fn main() -> ExitCode {
@@ -68,6 +69,7 @@ fn start(mode: &str, words: &[String]) -> Result<ExitCode, String> {
             mode::sheets::run(&probe, &args.peer(), &args.plan(mode::sheets::DEFAULT_COUNT)?)
         }
         "pairs" => Ok(mode::pairs::run(&probe, &args.plan(mode::pairs::DEFAULT_COUNT)?)),
+        "turn" => Ok(mode::turn::run(&probe, &args.plan(mode::turn::DEFAULT_COUNT)?)),
         _ => {
             let programs = mode::write::Programs {
                 write: probe,

@@ -1,4 +1,4 @@
-//! Makers of inputs: single ones (`header`, `sheet`, `picture`) and those of a whole mode.
+//! Makers of inputs: single ones (`header`, `sheet`, `picture`, `turning`) and those of a mode.
 
 pub mod header;
 pub mod headers;
@@ -6,6 +6,8 @@ pub mod picture;
 pub mod pictures;
 pub mod sheet;
 pub mod sheets;
+pub mod turning;
+pub mod turnings;
 
 use crate::rng::Rng;
 

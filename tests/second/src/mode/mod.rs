@@ -4,4 +4,5 @@ pub mod header;
 pub mod pairs;
 pub mod selftest;
 pub mod sheets;
+pub mod turn;
 pub mod write;

@@ -55,7 +55,9 @@ pub fn run() -> io::Result<ExitCode> {
     Ok(ExitCode::from(u8::from(failed > 0)))
 }
 
-const MODES: [&str; 4] = ["header", "sheets", "pairs", "write"];
+const MODES: [&str; 5] = ["header", "sheets", "pairs", "write", "turn"];
+/// Those that read sheets of the other program.
+const WITH_PEERS: [&str; 3] = ["header", "sheets", "write"];
 
 /// The modes that try a stand-in.
 fn modes_of(program: &str) -> impl Iterator<Item = &'static str> + '_ {
@@ -67,6 +69,7 @@ fn tried_by(mode: &str) -> &'static str {
     match mode {
         "header" => "header",
         "write" => "write",
+        "turn" => "turn",
         _ => "listing",
     }
 }
@@ -214,7 +217,7 @@ impl Bench {
     fn peers_missing(&self) -> io::Result<Vec<Trial>> {
         let mut trials = Vec::new();
         let beside = Path::new(concat!(env!("CARGO_MANIFEST_DIR"), "/../peer"));
-        for mode in MODES.into_iter().filter(|mode| *mode != "pairs") {
+        for mode in WITH_PEERS {
             let right = format!("fake-{}", tried_by(mode));
             let mut add = |dir: &str, told: &str| {
                 let words = ["--peer", &self.path(dir)];

@@ -1,9 +1,10 @@
-//! The format by its papers: reader of headers, colors and sheets, and writer.
+//! The format by its papers: reader of headers, colors and sheets, writer, and turning.
 //! Plain and slow on purpose; every number is 64 bits wide once it is out of its field.
 
 pub mod header;
 pub mod probe;
 pub mod sheet;
+pub mod turn;
 pub mod writer;
 
 /// The number a call is refused with.

@@ -3,6 +3,7 @@
 use super::header::{self, Header, Resolution};
 use super::long;
 use super::sheet::{self, Sheet};
+use super::turn;
 use super::writer::{self, Order};
 use std::fmt::Write;
 
@@ -16,6 +17,11 @@ pub const WRITE_LIMIT: usize = 400_000;
 pub const WRITE_TABLE: usize = 2_000;
 pub const WRITE_PIXELS: usize = 150_000;
 pub const WRITE_ROOM: usize = 400_000;
+
+/// The seven numbers that the turning program reads first.
+pub const TURN_NUMBERS: usize = 28;
+/// What it lends at most, each way.
+pub const TURN_PIXELS: usize = 60_000;
 
 /// The values whose colors the header program prints.
 fn values() -> impl Iterator<Item = u64> {
@@ -98,8 +104,7 @@ pub fn write(input: &[u8]) -> Vec<u8> {
         return b"short\n".to_vec();
     }
     let (table, pixels) = input[40..40 + table + 2 * count].split_at(table);
-    let pixels: Vec<u16> =
-        pixels.chunks(2).map(|pair| u16::from_le_bytes([pair[0], pair[1]])).collect();
+    let pixels = pixels_of(pixels);
     let written = writer::write(&Order {
         kind: number(0),
         ppl: number(1),
@@ -119,6 +124,43 @@ pub fn write(input: &[u8]) -> Vec<u8> {
     output.extend(&file);
     output.resize(output.len() - file.len() + room, fill);
     output
+}
+
+pub fn turn(input: &[u8]) -> Vec<u8> {
+    if input.len() < TURN_NUMBERS {
+        return b"short\n".to_vec();
+    }
+    let number = |i: usize| long(input, 4 * i) as u32;
+    let (way, fill) = (number(0), number(6));
+    let [count, room] = [4, 5].map(|i| number(i) as usize);
+    if way > 1 || count > TURN_PIXELS || room > TURN_PIXELS || fill > 65_535 {
+        return b"too long\n".to_vec();
+    }
+    let Some(pixels) = input.get(TURN_NUMBERS..TURN_NUMBERS + 2 * count) else {
+        return b"short\n".to_vec();
+    };
+    let turned = turn::turn(&turn::Order {
+        back: way == 1,
+        slo: number(1),
+        ppl: number(2),
+        nol: number(3),
+        pixels: &pixels_of(pixels),
+        room,
+    });
+    let (mut output, mut filled) = match turned {
+        Err(number) => (refused(number), Vec::new()),
+        Ok(found) => {
+            (format!("turned {} {}\n", found.width, found.height).into_bytes(), found.pixels)
+        }
+    };
+    filled.resize(room, fill as u16);
+    output.extend(filled.iter().flat_map(|pixel| pixel.to_le_bytes()));
+    output
+}
+
+/// Pixels of two bytes, the low one first.
+pub fn pixels_of(bytes: &[u8]) -> Vec<u16> {
+    bytes.chunks_exact(2).map(|pair| u16::from_le_bytes([pair[0], pair[1]])).collect()
 }
 
 fn refused(number: u32) -> Vec<u8> {
