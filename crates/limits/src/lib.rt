@@ -23,7 +23,7 @@ pub fn limit_rejection(dtc: u32, slo: u32, scn: u32, ppl: u32, nol: u32) -> u16
 }
 
 // The number of two parts of the table: the first part's, or the second's where it has none.
-fn earlier(a: u16, b: u16) -> u16
+pub fn earlier(a: u16, b: u16) -> u16
     ensures { λ r. ⌜ r ≡ cond (eqb a 0) b a ⌝ }
 {
     if a == 0 { b } else { a }

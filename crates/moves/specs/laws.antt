@@ -1,0 +1,5 @@
+pub mod Filling
+pub mod Grid
+pub mod Picture
+pub mod Rows
+pub mod Tabulate
