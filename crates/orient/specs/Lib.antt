@@ -1,0 +1,5 @@
+pub mod Corners
+pub mod Orientation
+pub mod Statement
+pub mod Turning
+pub mod laws

@@ -1,0 +1,4 @@
+pub mod Corners
+pub mod Moving
+pub mod Places
+pub mod Turning
