@@ -41,7 +41,8 @@ refused() { [ "$status" = "$1" ] && [ ! -s "$room/out" ] && grep -qF -- "$2" "$r
 rebuilt() { [ "$status" = 0 ] && [ "$(cat "$room/out")" = "built anew" ] && [ "$(grep -c '^list: .* proved (1 s)$' "$room/err")" = 2 ]; }
 
 "$copy/target/bin/listing" <"$sample" >"$room/right"
-try "the sample lists as the README shows it" diff "$room/right" <(sed -n '/^    type 9/,/^$/s/^    //p' README.md)
+"$copy/target/bin/listing" <"$copy/samples/sideways.rle" | cat "$room/right" - >"$room/both"
+try "two samples list as the README shows them" diff "$room/both" <(sed -n '/^    type 9/,/^$/s/^    //p' README.md)
 
 list "$copy" ./list samples/boundary_damaged.rle
 try "a file, and nothing but its listing" listed
