@@ -1,5 +1,5 @@
 -- A picture w wide and h tall that is filled from as many pixels, whose lines are its rows or, crossed, its columns. Each side may be
--- mirrored: `leftward`, the lines run from the right or, crossed, lie side by side from there; `upward` the same from the bottom.
+-- mirrored: `leftward`, columns are counted from the right; `upward`, rows from the bottom.
 use Prim.Native.Nat.{ℕ, _+_, _-_, _*_, _/_, _%_}
 use mathlib.Core.Bool.{Bool, cond}
 use mathlib.Core.List.{List, _++_}

@@ -94,7 +94,7 @@ fn band_end(x: usize, w: usize) -> usize
     w
 }
 
-// Fills columns x to e of every row.
+// Fills the columns from x on, below e, of every row.
 fn fill_band(
     leftward: bool,
     upward: bool,

@@ -5,10 +5,12 @@ use mathlib.Core.List.{List, _++_}
 use lib.ListN.{length, getD, take}
 use Rattle.orient.specs.Orientation.{width, height, columnOf, rowOf, placeOf, place, source, turned, turnedBack}
 
--- "Each source pixel lands in exactly one place and each place is filled once": the pixels of a sheet and the places of its
--- picture are as many, and `place` and `source` undo each other among them.
+-- "Each source pixel lands in exactly one place and each place is filled once": a sheet and its picture have as many pixels, and
+-- `place` and `source` undo each other among them.
 pub record OneToOne (slo p n : ℕ) : Type 0 where
   pub size : height slo p n * width slo p n ≡ n * p
+  pub turned-size : (pixels : List ℕ) → length (turned slo p n pixels) ≡ n * p
+  pub back-size : (upright : List ℕ) → length (turnedBack slo p n upright) ≡ n * p
   pub place-within : (j : ℕ) → j < n * p → place slo p n j < n * p
   pub source-within : (q : ℕ) → q < n * p → source slo p n q < n * p
   pub source-place : (j : ℕ) → j < n * p → source slo p n (place slo p n j) ≡ j
@@ -29,9 +31,9 @@ abbrev pub AllUpright : Type 0
 AllUpright = (slo p n k i : ℕ) → k < n → i < p → Upright slo p n k i
 
 -- "Turning back gives the sheet again", and turning a picture that was turned back gives the picture again, whatever lies past them.
-pub record TurnsBack (slo p n : ℕ) (pixels rest : List ℕ) : Type 0 where
-  pub sheet-again : turnedBack slo p n (turned slo p n pixels ++ rest) ≡ take (n * p) pixels
-  pub picture-again : turned slo p n (turnedBack slo p n pixels ++ rest) ≡ take (n * p) pixels
+pub record TurnsBack (slo p n : ℕ) (given rest : List ℕ) : Type 0 where
+  pub sheet-again : turnedBack slo p n (turned slo p n given ++ rest) ≡ take (n * p) given
+  pub picture-again : turned slo p n (turnedBack slo p n given ++ rest) ≡ take (n * p) given
 
 abbrev pub AllTurnBack : Type 0
-AllTurnBack = (slo p n : ℕ) (pixels rest : List ℕ) → n * p ≤ length pixels → TurnsBack slo p n pixels rest
+AllTurnBack = (slo p n : ℕ) (given rest : List ℕ) → n * p ≤ length given → TurnsBack slo p n given rest

@@ -1,9 +1,10 @@
 // Turns the pixels on standard input and prints what came of it, for comparison with a second program.
 //
 // The input is seven little-endian numbers of 32 bits: 0 to turn or 1 to turn back, SLO, PPL, NOL, how many pixels are lent to
-// be read and how many to be filled, and the value that those hold before; then the pixels that are read, two bytes each.
-// Prints `refused N` or `turned W H`, the sides of the upright picture, and then the pixels of the filled buffer as they are
-// after the call, two bytes each; `too long` where a number is above its limit, `short` where the input ends early.
+// be read and how many to be filled, 60,000 at most, and the value of 16 bits that those hold before; then the pixels that are
+// read, two bytes each. Prints a line, `refused N` or `turned W H`, the sides of the upright picture, and then the pixels of the
+// filled buffer as they are after the call, two bytes each. Without the seven numbers it prints `short`; else `too long` where
+// one of them is above its limit; else `short` where pixels are missing.
 use libc::STDIN_FILENO;
 use libc::STDOUT_FILENO;
 use orient::picture_size;

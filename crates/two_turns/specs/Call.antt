@@ -13,7 +13,7 @@ pub record TurnBackCall (slo ppl nol : ℕ) (upright pixels : List ℕ) (number 
   pub answer : number ≡ turnRejection slo ppl nol (length upright) (length pixels)
   pub pixels-are : pixels′ ≡ pixelsAfter slo ppl nol upright pixels
 
--- The second call is not rejected, and its buffer holds what the first one was given and then what was there.
+-- The second call is not rejected, and its buffer holds the PPL x NOL pixels that the first one was given and then what was there.
 pub record ComesBack (ppl nol : ℕ) (given again : List ℕ) (number : ℕ) (again′ : List ℕ) : Type 0 where
   pub taken : number ≡ 0
   pub same : again′ ≡ take (nol * ppl) given ++ drop (nol * ppl) again

@@ -34,7 +34,8 @@ pub fn turn_and_back(
     TwoNumbers { first, second }
 }
 
-// Turns a picture back, and turns the sheet into a third buffer, which then holds the picture again.
+// Turns a picture back, and turns the sheet into a third buffer. Where the picture is turned back and the third buffer has
+// room, it holds the picture again.
 pub fn back_and_turn(
     slo: u32,
     ppl: u32,

@@ -113,7 +113,7 @@ const WRITE: [Defect; 7] = [
     after("refuses-all", |out| *out = b"refused 16\n".to_vec()),
 ];
 
-const TURN: [Defect; 16] = [
+const TURN: [Defect; 17] = [
     // Bits 0 and 1 exchanged.
     before("corners-exchanged", |input| {
         if let Some(slo) = input.get_mut(4) {
@@ -176,7 +176,11 @@ const TURN: [Defect; 16] = [
             call.filled.copy_from_slice(&call.read[..count]);
         }
     }),
-    after("no-newline", |out| out.truncate(out.len() - 1)),
+    after("byte-missing", |out| out.truncate(out.len() - 1)),
+    after("no-newline", |out| {
+        let line = out.iter().position(|&byte| byte == b'\n');
+        line.map(|at| out.remove(at));
+    }),
     after("refuses-all", |out| *out = b"refused 17\n".to_vec()),
 ];
 

@@ -24,6 +24,9 @@ returns-3 c =
     let a = t .before .before .before .before .before .args in
     columns-moved (a .leftward) (a .upward) (a .w) (a .h) (a .input .now) (a .output .now) (t .before .before .if1 .left) (t .before .if2 .left) (t .if3 .taken) (c .before .before .fill-columns .ensures)
 
+fill-rows-requires : tie.Need-fill-rows-requires
+fill-rows-requires c κs = search needs
+
 returns-4 : tie.Need-returns-4
 returns-4 c =
     let t = c .before .before .before .before in
@@ -40,6 +43,6 @@ move-pixels-spec =
     (λ c κs. search needs)
     (λ c. search needs)
     returns-3
-    (λ c κs. search needs)
+    fill-rows-requires
     (λ c. search needs)
     returns-4)

@@ -9,7 +9,7 @@ use Rattle.moves.specs.Tabulate.{tabulate}
 use Rattle.moves.specs.Moves.{mirror}
 use Rattle.orient.specs.Orientation.{atRight, atBottom, linesAreRows, width, height, columnOf, rowOf, placeOf, place, lineAt, pixelAt, source, turned, turnedBack}
 use Rattle.orient.specs.Statement.{OneToOne, AllOneToOne, AllUpright, AllTurnBack}
-use Rattle.moves.specs.laws.Tabulate.{getD-tabulate, read-back}
+use Rattle.moves.specs.laws.Tabulate.{length-tabulate, getD-tabulate, read-back}
 use Rattle.moves.specs.laws.Grid.{mirror-below, mirror-twice, exchange-below, exchange-twice, exchange-product, cell-below, cell-row, cell-column, row-below, column-below}
 
 module _ (slo p n : ℕ) where
@@ -127,9 +127,12 @@ module _ (slo p n : ℕ) where
         (div-add-mod' q (width slo p n))
 
 pub one-to-one : AllOneToOne
+unfolding turned turnedBack
 one-to-one slo p n =
     record {
       size = picture-size slo p n;
+      turned-size = λ pixels. length-tabulate (n * p) _;
+      back-size = λ upright. length-tabulate (n * p) _;
       place-within = place-within slo p n;
       source-within = source-within slo p n;
       source-place = source-place slo p n;

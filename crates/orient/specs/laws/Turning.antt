@@ -8,7 +8,7 @@ use borrow.Author.Tests.{eq-eqb, ltb-false, le-ltb}
 use Rattle.units.specs.laws.Rules.{none-holds}
 use Rattle.orient.specs.Orientation.{turned, turnedBack}
 use Rattle.orient.specs.Turning.{turnRules, turnRejection, uprightAfter, pixelsAfter}
-use Rattle.moves.specs.laws.Tabulate.{length-tabulate}
+use Rattle.orient.specs.laws.Places.{one-to-one}
 
 module _ (slo p n read filled : ℕ) (taken : turnRejection slo p n read filled ≡ 0) where
   pub has-room : (n * p ≤ read) × (n * p ≤ filled)
@@ -40,9 +40,7 @@ module _ (slo p n : ℕ) (input output : List ℕ) (taken : turnRejection slo p 
   long new l = omega (arith, l, length-append new (drop (n * p) output))
 
   pub upright-room : n * p ≤ length (uprightAfter slo p n input output)
-  unfolding turned
-  upright-room = rw upright-filled (long (turned slo p n input) (length-tabulate (n * p) _))
+  upright-room = rw upright-filled (long (turned slo p n input) (one-to-one slo p n .turned-size input))
 
   pub pixels-room : n * p ≤ length (pixelsAfter slo p n input output)
-  unfolding turnedBack
-  pixels-room = rw pixels-filled (long (turnedBack slo p n input) (length-tabulate (n * p) _))
+  pixels-room = rw pixels-filled (long (turnedBack slo p n input) (one-to-one slo p n .back-size input))

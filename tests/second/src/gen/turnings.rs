@@ -94,10 +94,9 @@ fn thin(rng: &mut Rng) -> Vec<Turning> {
     for length in [2, 3, 65, 1_000] {
         sides.extend([(1, length), (length, 1)]);
     }
-    let mut all = every_code(rng, &sides);
-    // As long as a buffer can be, under eight codes.
-    all.extend(one_code(rng, &[(1, 60_000), (60_000, 1)].repeat(4)));
-    all
+    // As long as a buffer can be.
+    sides.extend([(1, 60_000), (60_000, 1)]);
+    every_code(rng, &sides)
 }
 
 /// Sides around those that a program might turn in one piece, with a short one and together.
@@ -246,6 +245,7 @@ fn odd_inputs(rng: &mut Rng) -> Vec<Vec<u8>> {
     for count in [59_999, 60_000, 60_001] {
         let input = Turning { pixels: vec![1; count], ..plain.clone() }.input();
         all.push(input[..input.len() - 1].to_vec());
+        all.push([input.clone(), rng.bytes(7)].concat());
         all.push(input);
     }
     // More pixels told of than there are, up to so many that their bytes wrap.
