@@ -1,14 +1,12 @@
 -- A call that is not rejected: its buffers have room, and one of them is filled.
 use Prim.Native.Nat.{ℕ, _*_, _≤_}
-use mathlib.Core.Path.{_≡_, _∙_, ap}
+use mathlib.Core.Path.{_≡_}
 use mathlib.Core.List.{List, _++_}
-use native.Mathlib.Omega.{arith}
-use lib.ListN.{length, drop, length-append}
+use lib.ListN.{length, drop}
 use borrow.Author.Tests.{eq-eqb, ltb-false, le-ltb}
 use Rattle.units.specs.laws.Rules.{none-holds}
 use Rattle.orient.specs.Orientation.{turned, turnedBack}
 use Rattle.orient.specs.Turning.{turnRules, turnRejection, uprightAfter, pixelsAfter}
-use Rattle.orient.specs.laws.Places.{one-to-one}
 
 module _ (slo p n read filled : ℕ) (taken : turnRejection slo p n read filled ≡ 0) where
   pub has-room : (n * p ≤ read) × (n * p ≤ filled)
@@ -34,13 +32,3 @@ module _ (slo p n : ℕ) (input output : List ℕ) (taken : turnRejection slo p 
   pub pixels-filled : pixelsAfter slo p n input output ≡ turnedBack slo p n input ++ drop (n * p) output
   unfolding pixelsAfter
   pixels-filled = rw (eq-eqb _ 0 taken)
-
-  -- and is as long as the picture at least
-  long : (new : List ℕ) → length new ≡ n * p → n * p ≤ length (new ++ drop (n * p) output)
-  long new l = omega (arith, l, length-append new (drop (n * p) output))
-
-  pub upright-room : n * p ≤ length (uprightAfter slo p n input output)
-  upright-room = rw upright-filled (long (turned slo p n input) (one-to-one slo p n .turned-size input))
-
-  pub pixels-room : n * p ≤ length (pixelsAfter slo p n input output)
-  pixels-room = rw pixels-filled (long (turnedBack slo p n input) (one-to-one slo p n .back-size input))
