@@ -1,2 +1,1 @@
 pub mod ByType
-pub mod Fit

@@ -1,60 +1,30 @@
-// The body of a scanline, by data type. Of a data type that has no codec nothing is read: status 16.
+// The body of a scanline, by data type. A data type that has no codec has the status 16, and nothing of it is stored.
 ghost use mathlib.Core.Path.{_≡_};
-ghost use lib.ListN.{length, take};
+ghost use lib.ListN.{length};
+ghost use Rattle.units.specs.Over.{over};
 ghost use Rattle.units.specs.Rules.{first};
-ghost use Rattle.codec.specs.Codec.{rowOf};
+ghost use Rattle.units.specs.Words.{wordCount, wordsToBytes};
 ghost use Rattle.codec.specs.Table.{bodyRules, bodyPixels, bodyExtent};
+use crate::byte_pixels::bytes_extent;
 use crate::byte_pixels::bytes_status;
-use crate::byte_pixels::read_bytes;
-use crate::byte_pixels::take_bytes;
-use crate::word_pixels::read_words;
-use crate::word_pixels::take_words;
+use crate::byte_pixels::paint_byte_bytes;
+use crate::word_pixels::paint_word_bytes;
+use crate::word_pixels::words_extent;
 use crate::word_pixels::words_status;
 use codec::Extent;
 use codec::fault;
+use decode_pairs::paint_pair_bytes;
+use decode_pairs::paint_pairs;
+use decode_pairs::pairs_extent;
 use decode_pairs::pairs_status;
-use decode_pairs::read_pairs;
-use decode_pairs::take_pairs;
-use decode_runs::read_runs;
+use decode_runs::paint_run_bytes;
+use decode_runs::paint_runs;
+use decode_runs::runs_extent;
 use decode_runs::runs_status;
-use decode_runs::take_runs;
-use slices::fill;
+use slices::widen;
+use units::load_words;
 
-// Reads a body of known length.
-pub fn read_body(dtc: u16, body: &[u8], row: &mut [u16]) -> u8
-    ensures { λ r. ⌜ r ≡ first (bodyRules dtc (now (body .entry)) (length (now (row .entry)))) ⌝ }
-    ensures { λ r. ⌜ now (row .exit) ≡ rowOf r (length (now (row .entry))) (bodyPixels dtc (now (body .entry)) (length (now (row .entry)))) ⌝ }
-{
-    match dtc {
-        2 => read_bytes(body, row),
-        3 => read_words(body, row),
-        9 => read_runs(body, row),
-        10 => read_pairs(body, row),
-        _ => {
-            fill(row, 0);
-            16
-        }
-    }
-}
-
-// Takes the body of a scanline without a header from the bytes that are left.
-pub fn take_body(dtc: u16, rest: &[u8], row: &mut [u16]) -> Extent
-    ensures { λ r. ⌜ r ≡ bodyExtent dtc (now (rest .entry)) (length (now (row .entry))) ⌝ }
-    ensures { λ r. ⌜ now (row .exit) ≡ rowOf (r .status) (length (now (row .entry))) (bodyPixels dtc (take (r .used .0) (now (rest .entry))) (length (now (row .entry)))) ⌝ }
-{
-    match dtc {
-        2 => take_bytes(rest, row),
-        3 => take_words(rest, row),
-        9 => take_runs(rest, row),
-        10 => take_pairs(rest, row),
-        _ => {
-            fill(row, 0);
-            fault(16)
-        }
-    }
-}
-
-// The status of a body of known length for a row of p pixels, with no row to fill.
+// The status of a body of known length, for a row of p pixels.
 pub fn body_status(dtc: u16, body: &[u8], p: usize) -> u8
     ensures { λ r. ⌜ r ≡ first (bodyRules dtc (now (body .entry)) p) ⌝ }
 {
@@ -64,5 +34,44 @@ pub fn body_status(dtc: u16, body: &[u8], p: usize) -> u8
         9 => runs_status(body, p),
         10 => pairs_status(body, p),
         _ => 16,
+    }
+}
+
+// What a scanline of p pixels without a header takes of the bytes that are left.
+pub fn body_extent(dtc: u16, rest: &[u8], p: usize) -> Extent
+    ensures { λ r. ⌜ r ≡ bodyExtent dtc (now (rest .entry)) p ⌝ }
+{
+    match dtc {
+        2 => bytes_extent(rest, p),
+        3 => words_extent(rest, p),
+        9 => runs_extent(rest, p),
+        10 => pairs_extent(rest, p),
+        _ => fault(16),
+    }
+}
+
+// Stores a body's pixels from the start of a row on, as far as both go.
+pub fn paint_body(dtc: u16, body: &[u8], row: &mut [u16])
+    ensures { λ _. ⌜ now (row .exit) ≡ over (bodyPixels dtc (now (body .entry)) (length (now (row .entry)))) (now (row .entry)) ⌝ }
+{
+    match dtc {
+        2 => widen(body, row),
+        3 => load_words(body, row),
+        9 => paint_runs(body, row),
+        10 => paint_pairs(body, row),
+        _ => {}
+    }
+}
+
+// The same where each pixel is stored as two bytes, low byte first.
+pub fn paint_body_bytes(dtc: u16, body: &[u8], row: &mut [u8])
+    ensures { λ _. ⌜ now (row .exit) ≡ over (wordsToBytes (bodyPixels dtc (now (body .entry)) (wordCount (now (row .entry)) .0))) (now (row .entry)) ⌝ }
+{
+    match dtc {
+        2 => paint_byte_bytes(body, row),
+        3 => paint_word_bytes(body, row),
+        9 => paint_run_bytes(body, row),
+        10 => paint_pair_bytes(body, row),
+        _ => {}
     }
 }

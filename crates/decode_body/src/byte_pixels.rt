@@ -1,45 +1,19 @@
 // Type 2: a byte for each pixel.
 ghost use mathlib.Core.Path.{_≡_};
-ghost use lib.ListN.{length, take};
+ghost use Rattle.units.specs.Over.{over};
 ghost use Rattle.units.specs.Rules.{first};
-ghost use Rattle.codec.specs.Codec.{rowOf};
+ghost use Rattle.units.specs.Words.{wordCount, wordsToBytes};
 ghost use Rattle.codec.specs.BytePixels.{byteRules, bytePixels, byteExtent};
 use codec::Extent;
 use codec::fault;
 use codec::taken;
-use slices::fill;
-use slices::widen;
 use units::Bytes;
+use units::bytes_to_words;
+use units::lesser;
+use units::widen_words;
 
-// Reads a body of known length: a byte for each pixel, and a spare byte after an odd number of them.
-pub fn read_bytes(body: &[u8], row: &mut [u16]) -> u8
-    ensures { λ r. ⌜ r ≡ first (byteRules (now (body .entry)) (length (now (row .entry)))) ⌝ }
-    ensures { λ r. ⌜ now (row .exit) ≡ rowOf r (length (now (row .entry))) (bytePixels (now (body .entry)) (length (now (row .entry)))) ⌝ }
-{
-    let status = bytes_status(body, row.len());
-    if status != 0 {
-        fill(row, 0);
-        return status;
-    }
-    widen(body, row);
-    0
-}
-
-// Takes a byte for each pixel, with no spare byte.
-pub fn take_bytes(rest: &[u8], row: &mut [u16]) -> Extent
-    ensures { λ r. ⌜ r ≡ byteExtent (now (rest .entry)) (length (now (row .entry))) ⌝ }
-    ensures { λ r. ⌜ now (row .exit) ≡ rowOf (r .status) (length (now (row .entry))) (bytePixels (take (r .used .0) (now (rest .entry))) (length (now (row .entry)))) ⌝ }
-{
-    let p = row.len();
-    if rest.len() < p {
-        fill(row, 0);
-        return fault(1);
-    }
-    widen(rest, row);
-    taken(Bytes(p))
-}
-
-// The status of a body for a row of p pixels. The spare byte is what is left of the body, so no sum can overflow.
+// The status of a body for a row of p pixels: a byte for each, and a spare byte after an odd number of them. The spare byte is what is
+// left of the body, so no sum can overflow.
 pub fn bytes_status(body: &[u8], p: usize) -> u8
     ensures { λ r. ⌜ r ≡ first (byteRules (now (body .entry)) p) ⌝ }
 {
@@ -50,4 +24,23 @@ pub fn bytes_status(body: &[u8], p: usize) -> u8
         return 6;
     }
     0
+}
+
+// What a scanline of p pixels takes of the bytes that are left: no spare byte.
+pub fn bytes_extent(rest: &[u8], p: usize) -> Extent
+    ensures { λ r. ⌜ r ≡ byteExtent (now (rest .entry)) p ⌝ }
+{
+    if rest.len() < p {
+        return fault(1);
+    }
+    taken(Bytes(p))
+}
+
+// Stores a row's pixels as two bytes each, low byte first, as far as the body goes.
+pub fn paint_byte_bytes(body: &[u8], row: &mut [u8])
+    ensures { λ _. ⌜ now (row .exit) ≡ over (wordsToBytes (bytePixels (now (body .entry)) (wordCount (now (row .entry)) .0))) (now (row .entry)) ⌝ }
+{
+    let p = bytes_to_words(Bytes(row.len())).0;
+    let n = lesser(body.len(), p);
+    widen_words(&body[..n], row);
 }

@@ -1,48 +1,19 @@
 // The bodies of type 9, read: words, alternately OFF and ON runs.
 //
-// A body is checked whole before a pixel is stored. Where its status is above 0 the row is all zeros.
+// A body is checked whole, by `runs_status` or `runs_extent`, before a pixel is stored.
 ghost use mathlib.Core.Path.{_≡_};
-ghost use lib.ListN.{length, take};
+ghost use Rattle.units.specs.Over.{over};
 ghost use Rattle.units.specs.Rules.{first};
-ghost use Rattle.units.specs.Words.{words};
-ghost use Rattle.codec.specs.Codec.{rowOf};
-ghost use Rattle.codec.specs.RunPixels.{runRules, runPixels, runTotal, runExtent};
+ghost use Rattle.units.specs.Words.{words, wordsToBytes};
+ghost use Rattle.codec.specs.RunPixels.{runRules, runPixels, runExtent};
 use codec::Extent;
 use codec::fault;
 use codec::taken;
-use slices::fill;
+use slices::put_run;
+use slices::put_run_bytes;
 use units::Bytes;
 use units::u16_at;
 use units::word_count;
-
-// Reads a body of known length: an odd number of words that total the row's length.
-pub fn read_runs(body: &[u8], row: &mut [u16]) -> u8
-    ensures { λ r. ⌜ r ≡ first (runRules (now (body .entry)) (length (now (row .entry)))) ⌝ }
-    ensures { λ r. ⌜ now (row .exit) ≡ rowOf r (length (now (row .entry))) (runPixels 0 (words (now (body .entry)))) ⌝ }
-{
-    let status = runs_status(body, row.len());
-    if status != 0 {
-        fill(row, 0);
-        return status;
-    }
-    paint_runs(body, row);
-    0
-}
-
-// Takes runs from the bytes that are left, up to the first OFF run with which the row is full.
-pub fn take_runs(rest: &[u8], row: &mut [u16]) -> Extent
-    ensures { λ r. ⌜ r ≡ runExtent (now (rest .entry)) (length (now (row .entry))) ⌝ }
-    ensures { λ r. ⌜ now (row .exit) ≡ rowOf (r .status) (length (now (row .entry))) (runPixels 0 (words (take (r .used .0) (now (rest .entry))))) ⌝ }
-{
-    let extent = runs_extent(rest, row.len());
-    let used = extent.used.0;
-    if extent.status != 0 {
-        fill(row, 0);
-        return extent;
-    }
-    paint_runs(&rest[..used], row);
-    extent
-}
 
 // The status of a body for a row of p pixels. What is left of p is counted down, so no total can overflow.
 pub fn runs_status(body: &[u8], p: usize) -> u8
@@ -68,8 +39,8 @@ pub fn runs_status(body: &[u8], p: usize) -> u8
     0
 }
 
-// What a scanline of p pixels takes.
-fn runs_extent(rest: &[u8], p: usize) -> Extent
+// What a scanline of p pixels takes of the bytes that are left: runs up to the first OFF run with which the row is full.
+pub fn runs_extent(rest: &[u8], p: usize) -> Extent
     ensures { λ r. ⌜ r ≡ runExtent (now (rest .entry)) p ⌝ }
 {
     let size = rest.len();
@@ -91,19 +62,31 @@ fn runs_extent(rest: &[u8], p: usize) -> Extent
     fault(1)
 }
 
-// Stores the pixels of runs that total the row's length.
-fn paint_runs(body: &[u8], row: &mut [u16])
-    requires { ⌜ runTotal (words (now body)) ≡ length (now row) ⌝ }
-    ensures { λ _. ⌜ now (row .exit) ≡ runPixels 0 (words (now (body .entry))) ⌝ }
+// Stores the pixels of runs from the start of a row on, as far as it goes.
+pub fn paint_runs(body: &[u8], row: &mut [u16])
+    ensures { λ _. ⌜ now (row .exit) ≡ over (runPixels 0 (words (now (body .entry)))) (now (row .entry)) ⌝ }
 {
     let size = body.len();
     let mut level: u16 = 0;
     let mut at = 0;
     let mut i = 0;
     while i + 2 <= size {
-        let end = at + (u16_at(body, i) as usize);
-        fill(&mut row[at..end], level);
-        at = end;
+        at = put_run(row, at, u16_at(body, i) as usize, level);
+        level = 1 - level;
+        i += 2;
+    }
+}
+
+// The same where each pixel is stored as two bytes, low byte first.
+pub fn paint_run_bytes(body: &[u8], row: &mut [u8])
+    ensures { λ _. ⌜ now (row .exit) ≡ over (wordsToBytes (runPixels 0 (words (now (body .entry))))) (now (row .entry)) ⌝ }
+{
+    let size = body.len();
+    let mut level: u16 = 0;
+    let mut at = 0;
+    let mut i = 0;
+    while i + 2 <= size {
+        at = put_run_bytes(row, at, u16_at(body, i) as usize, level);
         level = 1 - level;
         i += 2;
     }

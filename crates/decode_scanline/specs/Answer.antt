@@ -1,9 +1,14 @@
--- What reading a scanline answers, and the row that it leaves.
+-- What scanning a scanline answers, and what reading it into a row of pixels leaves there.
 use Prim.Native.Nat.{ℕ}
 use mathlib.Core.Path.{_≡_}
 use mathlib.Core.List.{List}
 use Rattle.layout.specs.Scanline.{Reading, Step}
 use Rattle.decode_scanline.specs.declared.Scanline.{Scanline}
+
+pub record IsScan (s : Step) (x : Reading) (r : Scanline) : Type 0 where
+  pub status : r .status ≡ x .status
+  pub lost : r .lost ≡ s .lost
+  pub used : r .used .0 ≡ s .used .0
 
 pub record IsLine (s : Step) (x : Reading) (r : Scanline) (row : List ℕ) : Type 0 where
   pub status : r .status ≡ x .status

@@ -6,21 +6,19 @@ ghost use Rattle.units.specs.Counts.{bytesOfWords};
 ghost use Rattle.units.specs.LittleEndian.{u16At};
 ghost use Rattle.units.specs.Rules.{first};
 ghost use Rattle.layout.specs.Scanline.{headedStep, headedReading, headOf, bodyOf, lostRules, placementRules};
-ghost use Rattle.decode_scanline.specs.Answer.{IsLine};
+ghost use Rattle.decode_scanline.specs.Answer.{IsScan};
 use crate::Scanline;
-use decode_body::read_body;
-use slices::fill;
+use decode_body::body_status;
 use units::Bytes;
 use units::Words;
 use units::u16_at;
 use units::words_to_bytes;
 
-pub fn read_headed(dtc: u16, number: u16, rest: &[u8], row: &mut [u16]) -> Scanline
-    ensures { λ r. ⌜ IsLine (headedStep (now (rest .entry))) (headedReading dtc (length (now (row .entry))) number (now (rest .entry))) r (now (row .exit)) ⌝ }
+pub fn scan_headed(dtc: u16, number: u16, p: usize, rest: &[u8]) -> Scanline
+    ensures { λ r. ⌜ IsScan (headedStep (now (rest .entry))) (headedReading dtc p number (now (rest .entry))) r ⌝ }
 {
     let lost = lost_status(rest);
     if lost != 0 {
-        fill(row, 0);
         return Scanline {
             status: lost,
             lost: true,
@@ -30,7 +28,6 @@ pub fn read_headed(dtc: u16, number: u16, rest: &[u8], row: &mut [u16]) -> Scanl
     let used = size_by(words_to_follow(rest));
     let placement = placement_status(rest, number);
     if placement != 0 {
-        fill(row, 0);
         return Scanline {
             status: placement,
             lost: false,
@@ -38,9 +35,8 @@ pub fn read_headed(dtc: u16, number: u16, rest: &[u8], row: &mut [u16]) -> Scanl
         };
     }
     let end = used.0;
-    let status = read_body(dtc, &rest[8..end], row);
     Scanline {
-        status,
+        status: body_status(dtc, &rest[8..end], p),
         lost: false,
         used,
     }

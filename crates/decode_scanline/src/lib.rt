@@ -1,14 +1,25 @@
 // One scanline of a raster, with a header or without, from the bytes that are left of it.
 //
-// The row that is lent is always filled: with the scanline's pixels where its status, the paper's mark, is 0, else with
-// zeros.
+// It is scanned first: its status, the paper's mark, and where the next one starts. Then the row that is lent is filled, with the
+// scanline's pixels where its status is 0, else with zeros. A row has 16 bits for each pixel, or two bytes, low byte first.
 mod headed;
 mod open;
 
+ghost use mathlib.Core.Path.{_≡_};
 ghost use lib.ListN.{length};
+ghost use Rattle.units.specs.Over.{over};
+ghost use Rattle.units.specs.Words.{wordCount, wordsToBytes};
 ghost use Rattle.layout.specs.Scanline.{stepOf, readingOf};
-ghost use Rattle.decode_scanline.specs.Answer.{IsLine};
+ghost use Rattle.decode_scanline.specs.Answer.{IsScan, IsLine};
+ghost use Rattle.decode_scanline.specs.laws.Body.{bodyStart};
+use decode_body::paint_body;
+use decode_body::paint_body_bytes;
+use slices::clear;
+use slices::fill;
 use units::Bytes;
+use units::Words;
+use units::bytes_to_words;
+use units::words_to_bytes;
 
 // The status of a scanline, whether the ones after it are lost with it, and how many bytes on the next one starts.
 pub struct Scanline {
@@ -17,13 +28,53 @@ pub struct Scanline {
     pub used: Bytes,
 }
 
-// Reads a scanline. `scn` and `dtc` are the raster's SCN and data type, and `number` the line number that its header must
-// have.
+// Scans a scanline of p pixels. `scn` and `dtc` are the raster's SCN and data type, and `number` the line number that its header
+// must have.
+pub fn scan_scanline(scn: u8, dtc: u16, number: u16, p: usize, rest: &[u8]) -> Scanline
+    ensures { λ r. ⌜ IsScan (stepOf scn dtc p (now (rest .entry))) (readingOf scn dtc p number (now (rest .entry))) r ⌝ }
+{
+    if scn == 1 {
+        return headed::scan_headed(dtc, number, p, rest);
+    }
+    open::scan_open(dtc, p, rest)
+}
+
+// Reads a scanline into a row of pixels.
 pub fn read_scanline(scn: u8, dtc: u16, number: u16, rest: &[u8], row: &mut [u16]) -> Scanline
     ensures { λ r. ⌜ IsLine (stepOf scn dtc (length (now (row .entry))) (now (rest .entry))) (readingOf scn dtc (length (now (row .entry))) number (now (rest .entry))) r (now (row .exit)) ⌝ }
 {
-    if scn == 1 {
-        return headed::read_headed(dtc, number, rest, row);
+    let line = scan_scanline(scn, dtc, number, row.len(), rest);
+    if line.status != 0 {
+        fill(row, 0);
+        return line;
     }
-    open::read_open(dtc, rest, row)
+    let from = body_start(scn);
+    let to = line.used.0;
+    paint_body(dtc, &rest[from..to], row);
+    line
+}
+
+// Reads a scanline into a row of bytes, two for each pixel, low byte first. An odd last byte is left as it was.
+pub fn read_scanline_bytes(scn: u8, dtc: u16, number: u16, rest: &[u8], row: &mut [u8]) -> Scanline
+    ensures { λ r. ⌜ IsScan (stepOf scn dtc (wordCount (now (row .entry)) .0) (now (rest .entry))) (readingOf scn dtc (wordCount (now (row .entry)) .0) number (now (rest .entry))) r ⌝ }
+    ensures { λ _. ⌜ now (row .exit) ≡ over (wordsToBytes (readingOf scn dtc (wordCount (now (row .entry)) .0) number (now (rest .entry)) .row)) (now (row .entry)) ⌝ }
+{
+    let p = bytes_to_words(Bytes(row.len())).0;
+    let line = scan_scanline(scn, dtc, number, p, rest);
+    if line.status != 0 {
+        let end = words_to_bytes(Words(p)).0;
+        clear(&mut row[..end]);
+        return line;
+    }
+    let from = body_start(scn);
+    let to = line.used.0;
+    paint_body_bytes(dtc, &rest[from..to], row);
+    line
+}
+
+// Where the body of a scanline starts: after the header, where there is one.
+fn body_start(scn: u8) -> usize
+    ensures { λ r. ⌜ r ≡ bodyStart scn ⌝ }
+{
+    if scn == 1 { 8 } else { 0 }
 }

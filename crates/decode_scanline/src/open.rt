@@ -1,15 +1,14 @@
 // A scanline without a header.
-ghost use lib.ListN.{length};
 ghost use Rattle.layout.specs.Scanline.{openStep, openReading};
-ghost use Rattle.decode_scanline.specs.Answer.{IsLine};
+ghost use Rattle.decode_scanline.specs.Answer.{IsScan};
 use crate::Scanline;
-use decode_body::take_body;
+use decode_body::body_extent;
 use units::Bytes;
 
-pub fn read_open(dtc: u16, rest: &[u8], row: &mut [u16]) -> Scanline
-    ensures { λ r. ⌜ IsLine (openStep dtc (length (now (row .entry))) (now (rest .entry))) (openReading dtc (length (now (row .entry))) (now (rest .entry))) r (now (row .exit)) ⌝ }
+pub fn scan_open(dtc: u16, p: usize, rest: &[u8]) -> Scanline
+    ensures { λ r. ⌜ IsScan (openStep dtc p (now (rest .entry))) (openReading dtc p (now (rest .entry))) r ⌝ }
 {
-    let extent = take_body(dtc, rest, row);
+    let extent = body_extent(dtc, rest, p);
     if extent.lost {
         return Scanline {
             status: extent.status,

@@ -2,10 +2,17 @@
 //
 // A copy goes as far as both slices do: what lies behind it in the buffer stays.
 ghost use mathlib.Core.Path.{_≡_};
+ghost use Prim.Native.Nat.{_+_, min};
 ghost use lib.ListN.{length, replicate};
+ghost use lib.Seq.{sets};
+ghost use Rattle.units.specs.Counts.{wordBytes};
 ghost use Rattle.units.specs.LittleEndian.{lowBytes};
 ghost use Rattle.units.specs.Over.{over, zeros};
+ghost use Rattle.units.specs.Words.{wordsToBytes};
+use units::Words;
+use units::fill_words;
 use units::lesser;
+use units::words_to_bytes;
 
 // One value in every place of a row of pixels.
 pub fn fill(row: &mut [u16], v: u16)
@@ -16,6 +23,32 @@ pub fn fill(row: &mut [u16], v: u16)
         row[i] = v;
         i += 1;
     }
+}
+
+// A run of one value in a row of pixels: n places from `at` on, as far as the row goes. Answers the place after it.
+pub fn put_run(row: &mut [u16], at: usize, n: usize, v: u16) -> usize
+    ensures { λ r. ⌜ r ≡ min (at + n) (length (now (row .entry))) ⌝ }
+    ensures { λ _. ⌜ now (row .exit) ≡ sets (now (row .entry)) at (replicate n v) ⌝ }
+{
+    if row.len() <= at {
+        return row.len();
+    }
+    let end = at + lesser(n, row.len() - at);
+    fill(&mut row[at..end], v);
+    end
+}
+
+// The same where each pixel is stored as two bytes, low byte first: `at` and the answer are places of bytes.
+pub fn put_run_bytes(row: &mut [u8], at: usize, n: usize, v: u16) -> usize
+    ensures { λ r. ⌜ r ≡ min (at + wordBytes n) (length (now (row .entry))) ⌝ }
+    ensures { λ _. ⌜ now (row .exit) ≡ sets (now (row .entry)) at (wordsToBytes (replicate n v)) ⌝ }
+{
+    if row.len() <= at {
+        return row.len();
+    }
+    let end = at + lesser(words_to_bytes(Words(n)).0, row.len() - at);
+    fill_words(&mut row[at..end], v);
+    end
 }
 
 // Bytes 0.

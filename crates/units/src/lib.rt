@@ -13,10 +13,12 @@ ghost use Rattle.units.specs.Counts.{wordsOfBlocks, bytesOfBlocks, bytes
 pub use little_endian::byte_at;
 pub use little_endian::u16_at;
 pub use little_endian::u32_at;
+pub use word_slice::fill_words;
 pub use word_slice::load_words;
 pub use word_slice::put_byte;
 pub use word_slice::put_word;
 pub use word_slice::store_words;
+pub use word_slice::widen_words;
 pub use word_slice::word_count;
 pub use word_slice::word_start;
 

@@ -1,6 +1,6 @@
 // The words of a slice of bytes, low byte first: counted, found, loaded and stored.
 ghost use mathlib.Core.Path.{_≡_};
-ghost use lib.ListN.{set};
+ghost use lib.ListN.{length, replicate, set};
 ghost use lib.Seq.{sets};
 ghost use Rattle.units.specs.Over.{over};
 ghost use Rattle.units.specs.Words.{words, twoBytes, wordsToBytes, wordCount, wordStart};
@@ -54,6 +54,40 @@ pub fn store_words(from: &[u16], to: &mut [u8])
     }
     if n < from.len() {
         put_word(to, 2 * n, from[n]);
+    }
+}
+
+// Stores one word over and over from the start of a buffer on, as far as it goes.
+pub fn fill_words(out: &mut [u8], w: u16)
+    ensures { λ _. ⌜ now (out .exit) ≡ over (wordsToBytes (replicate (length (now (out .entry))) w)) (now (out .entry)) ⌝ }
+{
+    let low = (w % 256) as u8;
+    let high = (w / 256) as u8;
+    // those that fit whole
+    let n = out.len() / 2;
+    let mut i = 0;
+    while i < n {
+        out[2 * i] = low;
+        out[2 * i + 1] = high;
+        i += 1;
+    }
+    put_word(out, 2 * n, w);
+}
+
+// Stores bytes as words from the start of a buffer on, as far as it goes.
+pub fn widen_words(from: &[u8], to: &mut [u8])
+    ensures { λ _. ⌜ now (to .exit) ≡ over (wordsToBytes (now (from .entry))) (now (to .entry)) ⌝ }
+{
+    // those that fit whole
+    let n = lesser(from.len(), to.len() / 2);
+    let mut i = 0;
+    while i < n {
+        to[2 * i] = from[i];
+        to[2 * i + 1] = 0;
+        i += 1;
+    }
+    if n < from.len() {
+        put_byte(to, 2 * n, from[n]);
     }
 }
 

@@ -1,59 +1,48 @@
-use mathlib.Core.List.{_++_}
 use borrow.Author.Needs.{needs}
-use lib.ListN.{length, take, drop}
+use lib.ListN.{length, drop, replicate}
+use lib.Seq.{sets, length-sets}
 use native.Mathlib.Omega.{arith}
 use Prim.Native.Nat.{_+_, _-_, _≤_, zero-le}
-use mathlib.Core.Path.{_≡_, refl, _∙_}
-use Rattle.slices.specs.laws.Painting.{filled-more, filled-length, filled-all}
-use Rattle.codec.specs.laws.PairReading.{pair-pixels, pair-total, end-total, end-pixels}
-use Rattle.codec.specs.PairPixels.{pairTotal, pairPixels}
-use Rattle.units.specs.Words.{words}
+use mathlib.Core.Path.{_≡_, refl, _∙_, ap}
+use Rattle.units.specs.Over.{over}
+use Rattle.units.specs.Words.{words, wordsToBytes}
+use Rattle.units.specs.laws.Over.{sets-over}
+use Rattle.slices.specs.laws.Painting.{run-next}
+use Rattle.codec.specs.PairPixels.{pairPixels}
+use Rattle.codec.specs.laws.PairReading.{pair-pixels, end-pixels}
 use Rattle.decode_pairs.proofs.paint_pairs.Statement.{statement}
 use Rattle.decode_pairs.proofs.paint_pairs.Tie as tie
 
 abbrev Inv-loop : tie.InvT-loop
 Inv-loop body row₀ size at₀ i₀ row at i =
-    (length row ≡ length row₀) × (i ≤ length body) × (at + pairTotal (words (drop i body)) ≡ length row)
-    × (take at row ++ pairPixels (words (drop i body)) ≡ pairPixels (words body))
+    (i ≤ length body) × (length row ≡ length row₀)
+    × (sets row at (pairPixels (words (drop i body))) ≡ over (pairPixels (words body)) row₀)
 
 abbrev μ-loop : tie.MeasureT-loop
 μ-loop body row₀ size at₀ i₀ row at i = length body - i
 
 loop-holds : tie.Need-loop-holds Inv-loop μ-loop
-loop-holds c = (refl, zero-le, omega arith, refl)
-
-add-end : tie.Need-add-end Inv-loop μ-loop
-add-end c = omega (arith, pair-total (c .before .before .before .before .before .before .args .body .now) (c .before .before .before .loop .i) (c .before .before .loop-test .taken))
-
-part-fill-end : tie.Need-part-fill-end Inv-loop μ-loop
-part-fill-end c = omega (arith, pair-total (c .before .before .before .before .before .before .args .body .now) (c .before .before .before .loop .i) (c .before .before .loop-test .taken))
+loop-holds c = (zero-le, refl, sets-over _ _)
 
 loop-again : tie.Need-loop-again Inv-loop μ-loop
 loop-again c =
-    let l = c .before .before .before .before .before .before .before .loop in
-    let b = c .before .before .before .before .before .before .before .before .before .before .args .body .now in
-    let more = c .before .before .before .before .before .before .loop-test .taken in
-    let v = c .before .before .before .before .before .u16-at in
-    let n = c .before .before .before .before .u16-at2 in
-    let f = c .before .before .fill in
-    let t = pair-total b (l .i) more in
-    let fits : l .at + n .result ≤ length (l .row) = omega arith in
-    let k = filled-length (l .row) (f .last .0) (l .at) (n .result) (v .result) fits (f .ensures) in (
-      k ∙ l .inv .0,
+    let p = c .before .before .put-run in
+    let n = c .before .before .before in
+    let v = n .before .before in
+    let l = v .before .before .loop in
+    let b = v .before .before .before .before .before .args .body .now in
+    let more = v .before .loop-test .taken in (
       more,
-      omega arith,
-      filled-more (l .row) (f .last .0) (l .at) (n .result) (v .result) fits (f .ensures) _ _ _
-          (rw (v .ensures, n .ensures) (pair-pixels b (l .i) more)) (l .inv .3),
+      ap length (p .ensures .1) ∙ length-sets (l .row) (l .at) (replicate (n .u16-at2 .result) (v .u16-at .result)) ∙ l .inv .1,
+      run-next (l .row) (l .at) (n .u16-at2 .result) (v .u16-at .result) (pairPixels (words (drop (l .i) b))) (pairPixels (words (drop (l .i + 4) b))) _
+          (rw (v .u16-at .ensures, n .u16-at2 .ensures) (pair-pixels b (l .i) more)) (p .ensures .0) (p .ensures .1) (l .inv .2),
     )
 
 returns : tie.Need-returns Inv-loop μ-loop
 returns c =
     let l = c .before .loop in
     let b = c .before .before .before .before .args .body .now in
-    let t = end-total b (l .i) (c .loop-test .left) in
-    let h : length (l .row) ≤ l .at = omega arith in
-    filled-all (l .row) (l .at) (pairPixels (words (drop (l .i) b))) (pairPixels (words b)) h
-    (end-pixels b (l .i) (c .loop-test .left)) (l .inv .3)
+    rw (end-pixels b (l .i) (c .loop-test .left)) at (l .inv .2)
 
 pub paint-pairs-spec : {M : Type 1} → statement M
 paint-pairs-spec =
@@ -64,14 +53,9 @@ paint-pairs-spec =
     loop-holds
     (λ c. omega arith)
     (λ c κs. search needs)
-    (λ c. omega arith)
+    (λ c. search needs)
     (λ c κs. search needs)
     (λ c. search needs)
-    add-end
-    (λ c. omega arith)
-    (λ c. omega arith)
-    (λ c. omega arith)
-    part-fill-end
     (λ c κs. search needs)
     (λ c. omega arith)
     (λ c. omega arith)

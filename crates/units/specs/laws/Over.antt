@@ -10,7 +10,7 @@ use lib.ListN.{length, getD, take, drop, set, drop-of-length-le}
 use lib.Dec.{ltb}
 use borrow.Author.Tests.{ltb-true, ltb-false}
 use native.Mathlib.Numerals.{add-one}
-use lib.Seq.{sets, set-out, getD-set-other, take-nil, take-all, drop-cons}
+use lib.Seq.{sets, set-out, getD-set-other, take-nil, take-all, take-take, length-take-le, drop-cons}
 use Rattle.units.specs.Over.{over}
 
 pub sets-append : (l : List ℕ) (i : ℕ) (a b : List ℕ) → sets l i (a ++ b) ≡ sets (sets l i a) (i + length a) b
@@ -62,6 +62,32 @@ sets-part (x ∷ l) (suc at) vs = sets-cons x l at vs ∙ ap (λ (r : List ℕ).
 pub over-full : (new old : List ℕ) → length old ≤ length new → over new old ≡ take (length old) new
 unfolding over
 over-full new old h = rw (drop-of-length-le old {i = length new} h) (append-nil (take (length old) new))
+
+-- no more than there is room for
+pub over-taken : (new old : List ℕ) → over (take (length old) new) old ≡ over new old
+over-taken new old = go (ltb (length new) (length old)) refl
+  where
+    go : (b : Bool) → ltb (length new) (length old) ≡ b → over (take (length old) new) old ≡ over new old
+    go true t = rw (take-all (length old) new (omega (arith, ltb-true (length new) (length old) t)))
+    go false t =
+        let h : length old ≤ length new = ltb-false (length new) (length old) t in
+        let l : length (take (length old) new) ≡ length old = length-take-le (length old) new h in
+        over-full (take (length old) new) old (omega arith)
+        ∙ take-take (length old) (length old) new (omega arith)
+        ∙ sym (over-full new old h)
+
+-- no more than there is
+pub take-least : (s : List ℕ) (p m : ℕ) → m ≡ min (length s) p → take m s ≡ take p s
+take-least s p m e = go (ltb (length s) p) refl
+  where
+    go : (b : Bool) → ltb (length s) p ≡ b → take m s ≡ take p s
+    go true t =
+        let h : length s < p = ltb-true (length s) p t in
+        rw (take-all m s (omega arith), take-all p s (omega arith))
+    go false t =
+        let h : p ≤ length s = ltb-false (length s) p t in
+        let q : m ≡ p = omega arith in
+        rw q
 
 -- A loop that stores a list from the front, one element a turn: element i and those behind it, or none is left or no room.
 module _ (xs out : List ℕ) (i : ℕ) where

@@ -1,12 +1,15 @@
 -- Words as bytes: laws of `wordsToBytes`, and of the stores that put a word where it belongs.
 use Prim.Native.Nat.{ℕ, suc, _+_, _*_, _%_, _/_, _≤_, _<_}
-use mathlib.Core.Path.{_≡_, refl, ap}
+use mathlib.Core.Path.{_≡_, refl, sym, _∙_, ap}
+use mathlib.Core.Bool.{Bool, true, false}
 use mathlib.Core.List.{List, [], _∷_, _++_}
 use native.Mathlib.Numerals.{add-one, add-two}
 use native.Mathlib.Omega.{arith}
-use lib.ListN.{length, getD, drop, set, drop-of-length-le}
-use lib.Seq.{sets, drop-cons, length-sets}
-use Rattle.units.specs.Words.{wordsToBytes}
+use lib.ListN.{length, getD, drop, set, replicate, drop-of-length-le, length-replicate, length-set, getD-replicate}
+use lib.Dec.{ltb}
+use lib.Seq.{sets, set-out, drop-cons, length-sets}
+use borrow.Author.Tests.{ltb-true, ltb-false}
+use Rattle.units.specs.Words.{twoBytes, wordsToBytes}
 use Rattle.units.specs.laws.Over.{sets-past}
 
 pub length-bytes : (ws : List ℕ) → length (wordsToBytes ws) ≡ 2 * length ws
@@ -46,3 +49,39 @@ sets-last row out i h g =
     let v = getD row i 0 % 256 ∷ (getD row i 0 / 256 ∷ []) in
     rw (drop-cons row i 0 h, sets-word out (2 * i) (getD row i 0) (drop (suc i) row))
     (sets-past (sets out (2 * i) v) (2 * i + 2) (wordsToBytes (drop (suc i) row)) (omega (arith, length-sets out (2 * i) v)))
+
+-- one word over and over: the next one, and the last, where there is room for one at most
+module _ (out : List ℕ) (m w i : ℕ) where
+  pub sets-same : i < m
+      → sets out (2 * i) (wordsToBytes (drop i (replicate m w)))
+      ≡ sets (set (set out (2 * i) (w % 256)) (2 * i + 1) (w / 256)) (2 * (i + 1)) (wordsToBytes (drop (i + 1) (replicate m w)))
+  sets-same h =
+      rw (getD-replicate m i w 0 h) at (sets-pixel (replicate m w) out i (omega (arith, length-replicate m w)))
+
+  pub same-last : length out ≤ m → length out ≤ 2 * i + 2 → sets out (2 * i) (wordsToBytes (drop i (replicate m w))) ≡ sets out (2 * i) (twoBytes w)
+  same-last k g = go (ltb i m) refl
+    where
+      go : (b : Bool) → ltb i m ≡ b → sets out (2 * i) (wordsToBytes (drop i (replicate m w))) ≡ sets out (2 * i) (twoBytes w)
+      go true e =
+          let h : i < m = ltb-true i m e in
+          rw (getD-replicate m i w 0 h) at (sets-last (replicate m w) out i (omega (arith, length-replicate m w)) g)
+      go false e =
+          let h : m ≤ i = ltb-false i m e in
+          sets-past out (2 * i) (wordsToBytes (drop i (replicate m w))) (omega arith) ∙ sym (sets-past out (2 * i) (twoBytes w) (omega arith))
+
+-- a byte as a word: the next one, and the last, where there is room for no whole one
+module _ (bytes out : List ℕ) (i : ℕ) (h : i < length bytes) (small : getD bytes i 0 < 256) where
+  low : getD bytes i 0 % 256 ≡ getD bytes i 0
+  low = omega arith
+
+  high : getD bytes i 0 / 256 ≡ 0
+  high = omega arith
+
+  pub sets-byte : sets out (2 * i) (wordsToBytes (drop i bytes))
+      ≡ sets (set (set out (2 * i) (getD bytes i 0)) (2 * i + 1) 0) (2 * (i + 1)) (wordsToBytes (drop (i + 1) bytes))
+  sets-byte = rw (low, high) at (sets-pixel bytes out i h)
+
+  pub byte-last : length out ≤ 2 * i + 1 → sets out (2 * i) (wordsToBytes (drop i bytes)) ≡ set out (2 * i) (getD bytes i 0)
+  byte-last g =
+      (rw (low, high) at (sets-last bytes out i h (omega arith)))
+      ∙ set-out (set out (2 * i) (getD bytes i 0)) (suc (2 * i)) 0 (omega (arith, length-set out (2 * i) (getD bytes i 0)))

@@ -1,11 +1,11 @@
 -- Words of bytes: how many there are, one by one, by their index, and in the first bytes.
-use Prim.Native.Nat.{ℕ, zero, suc, _+_, _*_, _/_, _%_, _≤_, _<_}
+use Prim.Native.Nat.{ℕ, zero, suc, _+_, _*_, _/_, _%_, _≤_, _<_, min}
 use mathlib.Core.Path.{_≡_, refl, ap, ap₂, _∙_}
 use mathlib.Core.List.{List, [], _∷_, _++_, append-nil}
 use native.Mathlib.Numerals.{add-one, add-two}
 use native.Mathlib.Omega.{arith}
 use lib.ListN.{length, getD, take, drop}
-use lib.Seq.{drop-cons, take-take}
+use lib.Seq.{drop-cons, take-nil, take-take}
 use Rattle.units.specs.LittleEndian.{u16At}
 use Rattle.units.specs.Counts.{wordBytes}
 use Rattle.units.specs.Words.{words, wordsToBytes, wordCount}
@@ -65,3 +65,21 @@ words-before (w ∷ ws) rest =
 pub words-back : (ws : List ℕ) → words (wordsToBytes ws) ≡ ws
 unfolding words
 words-back ws = rw (append-nil (wordsToBytes ws)) at (words-before ws [] ∙ append-nil ws)
+
+-- bytes taken for words and stored again are the bytes, as far as there are whole words
+pub bytes-back : (b : List ℕ) (p m : ℕ) → m ≡ min (wordCount b .0) p → ((i : ℕ) → getD b i 0 < 256) → wordsToBytes (take p (words b)) ≡ take (wordBytes m) b
+unfolding words wordsToBytes
+bytes-back [] p m e small = rw (take-nil {A = ℕ} p, take-nil {A = ℕ} (2 * m))
+bytes-back (x ∷ []) p m e small =
+    let n : length (x ∷ []) ≡ 1 = refl in
+    let z : m ≡ 0 = omega arith in
+    rw (take-nil {A = ℕ} p, z)
+bytes-back (x ∷ (y ∷ r)) zero m e small = let z : m ≡ 0 = omega arith in rw z
+bytes-back (x ∷ (y ∷ r)) (suc p) zero e small = absurd (let n : length (x ∷ (y ∷ r)) ≡ suc (suc (length r)) = refl in omega arith)
+bytes-back (x ∷ (y ∷ r)) (suc p) (suc m) e small =
+    let n : length (x ∷ (y ∷ r)) ≡ suc (suc (length r)) = refl in
+    let a : x < 256 = small 0 in
+    let low : (x + 256 * y) % 256 ≡ x = omega arith in
+    let high : (x + 256 * y) / 256 ≡ y = omega arith in
+    let more : m ≡ min (wordCount r .0) p = omega arith in
+    rw (two-suc m, low, high) (ap (λ (l : List ℕ). x ∷ (y ∷ l)) (bytes-back r p m more (λ i. small (suc (suc i)))))

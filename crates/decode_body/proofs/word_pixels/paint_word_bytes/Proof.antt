@@ -1,0 +1,46 @@
+use Prim.Native.Nat.{ℕ, _≤_, _<_, min}
+use mathlib.Core.Path.{_≡_, sym, _∙_, ap}
+use mathlib.Core.List.{List}
+use native.Mathlib.Omega.{arith}
+use lib.ListN.{length, getD, take}
+use lib.Seq.{length-take-le}
+use Rattle.units.specs.Counts.{wordBytes}
+use Rattle.units.specs.Over.{over}
+use Rattle.units.specs.Words.{wordCount}
+use Rattle.units.specs.laws.Words.{bytes-back}
+use borrow.Author.Needs.{needs}
+use Rattle.decode_body.proofs.word_pixels.paint_word_bytes.Statement.{statement}
+use Rattle.decode_body.proofs.word_pixels.paint_word_bytes.Tie as tie
+
+slice-aggregate-copy : tie.Need-slice-aggregate-copy
+slice-aggregate-copy c =
+    let a = c .before .before .before .before .before .before .before .args in
+    sym (length-take-le (c .before .words-to-bytes .result .0) (a .body .now) (omega arith))
+
+returns : tie.Need-returns
+returns c =
+    let w = c .before .before .before .before .before in
+    let l = w .before in
+    let k = l .before .before .before .before in
+    let a = k .before .args in
+    let b = a .body .now in
+    let p = wordCount (a .row .now) .0 in
+    let n : l .lesser .result ≡ min (wordCount b .0) p = omega arith in
+    let end : w .words-to-bytes .result .0 ≡ wordBytes (l .lesser .result) = omega arith in
+    c .before .before .copy .ensures
+    ∙ ap (λ (x : List ℕ). over x (a .row .now))
+    (ap (λ (m : ℕ). take m b) end
+    ∙ sym (bytes-back b p (l .lesser .result) n (λ i. omega (arith, k .shared-slice-known .given i))))
+
+pub paint-word-bytes-spec : {M : Type 1} → statement M
+paint-word-bytes-spec =
+    tie.close
+    (tie.spec
+    (λ c κs. search needs)
+    (λ c κs. search needs)
+    (λ c κs. search needs)
+    (λ c κs. search needs)
+    slice-aggregate-copy
+    (λ c κs. search needs)
+    (λ c. search needs)
+    returns)

@@ -1,0 +1,105 @@
+use lib.ListN.{take, drop}
+use native.Mathlib.Omega.{arith}
+use mathlib.Core.Path.{refl, _≡_, sym, _∙_}
+use Prim.Native.Nat.{ℕ, _+_, _-_}
+use mathlib.Core.List.{List}
+use mathlib.Core.Bool.{Bool, true, false, cond}
+use borrow.Author.Needs.{needs}
+use Rattle.units.specs.declared.Bytes.{Bytes}
+use Rattle.units.specs.Counts.{nBytes, bytesOfWords}
+use Rattle.units.specs.Rules.{first}
+use Rattle.codec.specs.Table.{bodyRules}
+use Rattle.layout.specs.Scanline.{placementRules, headOf, bodyOf, following, reading, isLost, headedStep, headedReading}
+use Rattle.layout.specs.laws.Line.{lostBy, NotLost, not-lost, is-lost, is-not-lost, head-word, status-lost, status-field, status-body}
+use Rattle.decode_scanline.specs.Answer.{IsScan}
+use Rattle.decode_scanline.proofs.headed.scan_headed.Statement.{statement}
+use Rattle.decode_scanline.proofs.headed.scan_headed.Tie as tie
+
+-- The line from its parts: by the tests of the frame, of the header's fields, or of the body.
+module _ (t p number : ℕ) (rest : List ℕ) where
+  line-is : {n : ℕ} → reading t p number (headOf rest) (bodyOf rest) .status ≡ n
+      → {lost : Bool} → isLost rest ≡ lost
+      → {used : Bytes} → used .0 ≡ cond lost 0 (4 + bytesOfWords (following (headOf rest)) .0)
+      → IsScan (headedStep rest) (headedReading t p number rest) (record { status = n; lost = lost; used = used })
+  line-is s l u = record { status = sym s; lost = sym l; used = rw l u }
+
+  line-lost : {n : ℕ} → n ≡ lostBy rest → (n ≡ 0 → ⊥)
+      → IsScan (headedStep rest) (headedReading t p number rest) (record { status = n; lost = true; used = nBytes 0 })
+  line-lost by some =
+      let s : lostBy rest ≡ 0 → ⊥ = λ q. some (by ∙ q) in
+      line-is (status-lost t p number (headOf rest) (bodyOf rest) s ∙ sym by) (is-lost rest s) refl
+
+  module _ (none : lostBy rest ≡ 0) {used : Bytes} (end : used .0 ≡ 4 + bytesOfWords (following (headOf rest)) .0) where
+    line-field : {n : ℕ} → n ≡ first (placementRules number (headOf rest)) → (n ≡ 0 → ⊥)
+        → IsScan (headedStep rest) (headedReading t p number rest) (record { status = n; lost = false; used = used })
+    line-field by some =
+        line-is (status-field t p number (headOf rest) (bodyOf rest) none (λ q. some (by ∙ q)) ∙ sym by) (is-not-lost rest none) end
+
+    body-is : take (used .0 - 8) (drop 8 rest) ≡ bodyOf rest
+    body-is = rw end (sym (not-lost rest none .body))
+
+    line-body : {n : ℕ} → first (placementRules number (headOf rest)) ≡ 0
+        → n ≡ first (bodyRules t (take (used .0 - 8) (drop 8 rest)) p)
+        → IsScan (headedStep rest) (headedReading t p number rest) (record { status = n; lost = false; used = used })
+    line-body none₂ by =
+        line-is (status-body t p number (headOf rest) (bodyOf rest) none none₂ ∙ sym (rw body-is at by)) (is-not-lost rest none) end
+
+-- What is known where the frame is right.
+frame-right : (c : tie.Else1) → lostBy (c .before .before .before .args .rest .now) ≡ 0
+frame-right c = sym (c .before .lost-status .ensures) ∙ c .if1 .left
+
+header-right : (c : tie.Else1) → NotLost (c .before .before .before .args .rest .now)
+header-right c = not-lost (c .before .before .before .args .rest .now) (frame-right c)
+
+end-is : (c : tie.After-size-by)
+    → c .size-by .result .0 ≡ 4 + bytesOfWords (following (headOf (c .before .before .before .before .before .args .rest .now))) .0
+end-is c = omega (arith, head-word (c .before .before .before .before .before .args .rest .now) 2 (omega arith))
+
+returns : tie.Need-returns
+returns c =
+    let a = c .before .before .before .args in
+    line-lost (a .dtc) (a .p) (a .number) (a .rest .now) (c .before .lost-status .ensures) (c .if1 .taken)
+
+placement-status-requires : tie.Need-placement-status-requires
+placement-status-requires c κs = header-right (c .before .before) .whole
+
+returns-2 : tie.Need-returns-2
+returns-2 c =
+    let e = c .before .before in
+    let f = e .before .before in
+    let a = f .before .before .before .args in
+    line-field (a .dtc) (a .p) (a .number) (a .rest .now) (frame-right f) (end-is e) (c .before .placement-status .ensures) (c .if2 .taken)
+
+sub-body-status : tie.Need-sub-body-status
+sub-body-status c = omega (arith, end-is (c .before .before), header-right (c .before .before .before .before) .words)
+
+part-body-status-start : tie.Need-part-body-status-start
+part-body-status-start c = omega (arith, end-is (c .before .before), header-right (c .before .before .before .before) .words)
+
+part-body-status-end : tie.Need-part-body-status-end
+part-body-status-end c = omega (arith, end-is (c .before .before), header-right (c .before .before .before .before) .within)
+
+returns-3 : tie.Need-returns-3
+returns-3 c =
+    let d = c .before .before in
+    let e = d .before .before in
+    let f = e .before .before in
+    let a = f .before .before .before .args in
+    line-body (a .dtc) (a .p) (a .number) (a .rest .now) (frame-right f) (end-is e) (sym (d .before .placement-status .ensures) ∙ d .if2 .left)
+    (c .body-status .ensures)
+
+pub scan-headed-spec : {M : Type 1} → statement M
+scan-headed-spec =
+    tie.close
+    (tie.spec
+    (λ c κs. search needs)
+    returns
+    (λ c κs. search needs)
+    (λ c κs. search needs)
+    placement-status-requires
+    returns-2
+    sub-body-status
+    part-body-status-start
+    part-body-status-end
+    (λ c κs. search needs)
+    returns-3)
