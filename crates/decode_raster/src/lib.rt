@@ -1,7 +1,9 @@
 // The reading of a whole raster into lent buffers.
 //
 // A rejected call changes nothing. Otherwise every row is stored in its own place, every scanline has its status, the
-// paper's mark, and what lies past the last row or status is left as it was.
+// paper's mark, and what lies past the last row or status is left as it was. `bytes` reads into two bytes for each pixel.
+mod bytes;
+
 ghost use mathlib.Core.Path.{_≡_};
 ghost use Prim.Native.Nat.{_≤_, _<_};
 ghost use lib.ListN.{length};
@@ -9,8 +11,9 @@ ghost use Rattle.limits.specs.Limits.{mostLines};
 ghost use Rattle.layout.specs.Chain.{sheetOf, rasterOf, oneIfGood};
 ghost use Rattle.layout.specs.Reading.{rasterRejection, rasterReading, pixelsAfter, marksAfter, answerOf};
 ghost use Rattle.decode_raster.specs.Answer.{rasterNumbers};
-ghost use Rattle.decode_raster.specs.laws.Answer.{Fits, ChainAt, Stepped};
+ghost use Rattle.decode_raster.specs.laws.Answer.{asPixels, Fits, ChainAt, Stepped};
 ghost use Rattle.decode_raster.specs.laws.Lines.{Done};
+pub use bytes::read_raster_bytes;
 use decode_scanline::read_scanline;
 use fields::data_start;
 use fields::fields_of;
@@ -100,8 +103,8 @@ fn answer_of(good: u32, nol: u32) -> u32
 
 // Reads the scanlines one after the other, each into its own part of the pixels.
 fn read_lines(bytes: &[u8], l: RasterLayout, pixels: &mut [u16], marks: &mut [u8]) -> Chain
-    requires { ⌜ Fits (rasterOf l (now bytes)) (length (now pixels)) (length (now marks)) ⌝ }
-    ensures { λ r. ⌜ Done (rasterOf l (now (bytes .entry))) (now (pixels .entry)) (now (marks .entry)) (now (pixels .exit)) (now (marks .exit)) r ⌝ }
+    requires { ⌜ Fits (rasterOf l (now bytes)) (l .ppl) (length (now pixels)) (length (now marks)) ⌝ }
+    ensures { λ r. ⌜ Done (rasterOf l (now (bytes .entry))) (asPixels (l .ppl)) (now (pixels .entry)) (now (marks .entry)) (now (pixels .exit)) (now (marks .exit)) r ⌝ }
 {
     let p = l.ppl as usize;
     let n = l.nol as usize;
@@ -129,7 +132,7 @@ fn read_line(bytes: &[u8], l: RasterLayout, chain: Chain, k: usize, row: &mut [u
     requires { ⌜ ChainAt (rasterOf l (now bytes)) k chain ⌝ }
     requires { ⌜ k < l .nol ⌝ }
     requires { ⌜ length (now row) ≡ l .ppl ⌝ }
-    ensures { λ r. ⌜ Stepped (rasterOf l (now (bytes .entry))) k r (now (row .exit)) ⌝ }
+    ensures { λ r. ⌜ Stepped (rasterOf l (now (bytes .entry))) (asPixels (l .ppl)) k r (now (row .exit)) ⌝ }
 {
     let at = chain.at;
     if chain.lost {

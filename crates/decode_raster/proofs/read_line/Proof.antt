@@ -7,6 +7,8 @@ use Rattle.layout.specs.Scanline.{stepOf, readingOf}
 use Rattle.layout.specs.Chain.{rasterOf}
 use Rattle.layout.specs.laws.Chain.{start-within, good-most}
 use Rattle.decode_scanline.specs.Answer.{IsLine}
+use Rattle.decode_scanline.specs.laws.Body.{scan-of}
+use Rattle.decode_raster.specs.laws.Answer.{asPixels}
 use Rattle.decode_raster.specs.laws.Steps.{next-within, one-most, step-lost, step-on}
 use borrow.Author.Needs.{needs}
 use Rattle.decode_raster.proofs.read_line.Statement.{statement}
@@ -40,7 +42,7 @@ returns c =
     let f = c .before .before in
     let s = f .before .before .before .before .before in
     let a = s .args in
-    step-lost (rasterOf (a .l) (a .bytes .now)) (a .k) (a .chain) (s .pre .1 .1 .0) (f .before .before .if1 .taken) (f .fill .last .0)
+    step-lost (rasterOf (a .l) (a .bytes .now)) (asPixels (a .l .ppl)) (a .k) (a .chain) (s .pre .1 .1 .0) (f .before .before .if1 .taken) (f .fill .last .0)
     (f .fill .ensures ∙ ap zeros (s .pre .1 .1 .1 .1))
 
 sub-read-scanline : tie.Need-sub-read-scanline
@@ -56,8 +58,7 @@ add-t13 c =
     let s = e .before .before .before in
     omega (
       arith,
-      next-within (rasterOf (s .args .l) (s .args .bytes .now)) (s .args .chain .at) (s .args .k + 1) (y .read-scanline .result)
-          (y .read-scanline .last .1 .1 .1 .1 .0) (at-within e) (line-read y),
+      next-within (rasterOf (s .args .l) (s .args .bytes .now)) (s .args .chain .at) (s .args .k + 1) (y .read-scanline .result) (at-within e) (scan-of (line-read y)),
     )
 
 add-t20 : tie.Need-add-t20
@@ -77,8 +78,8 @@ returns-2 c =
     let y = c .before .before .before .before .before in
     let e = y .before .before .before in
     let s = e .before .before .before in
-    step-on (rasterOf (s .args .l) (s .args .bytes .now)) (s .args .k) (s .args .chain) (s .pre .1 .1 .0) (e .if1 .left)
-    (y .read-scanline .result) (y .read-scanline .last .1 .1 .1 .1 .0) (c .before .one-if-good .result) (line-read y) (c .before .one-if-good .ensures)
+    step-on (rasterOf (s .args .l) (s .args .bytes .now)) (asPixels (s .args .l .ppl)) (s .args .k) (s .args .chain) (s .pre .1 .1 .0) (e .if1 .left)
+    (y .read-scanline .result) (y .read-scanline .last .1 .1 .1 .1 .0) (c .before .one-if-good .result) (scan-of (line-read y)) (line-read y .row-is) (c .before .one-if-good .ensures)
 
 pub read-line-spec : {M : Type 1} → statement M
 read-line-spec =

@@ -4,12 +4,13 @@ use mathlib.Core.Path.{_≡_}
 use native.Mathlib.Omega.{arith}
 use lib.ListN.{length}
 use Rattle.layout.specs.Chain.{rasterOf}
+use Rattle.decode_raster.specs.laws.Answer.{asPixels}
 use Rattle.decode_raster.specs.laws.Lines.{LinesAt, lines-first, row-fits, lent-length, lines-next, lines-done}
 use Rattle.decode_raster.proofs.read_lines.Statement.{statement}
 use Rattle.decode_raster.proofs.read_lines.Tie as tie
 
 abbrev Inv-loop : tie.InvT-loop
-Inv-loop bytes l pixels₀ marks₀ p n chain₀ k₀ pixels marks chain k = LinesAt (rasterOf l bytes) pixels₀ marks₀ pixels marks chain k
+Inv-loop bytes l pixels₀ marks₀ p n chain₀ k₀ pixels marks chain k = LinesAt (rasterOf l bytes) (asPixels (l .ppl)) pixels₀ marks₀ pixels marks chain k
 
 abbrev μ-loop : tie.MeasureT-loop
 μ-loop bytes l pixels₀ marks₀ p n chain₀ k₀ pixels marks chain k = n - k
@@ -21,13 +22,13 @@ room : (c : tie.In-loop Inv-loop μ-loop)
 room c =
     let l = c .before .loop in
     let s = c .before .before .before .before .before .before .before in
-    row-fits (rasterOf (s .args .l) (s .args .bytes .now)) (s .args .pixels .now) (s .args .marks .now) (l .pixels) (l .marks) (l .chain) (l .k)
+    row-fits (rasterOf (s .args .l) (s .args .bytes .now)) (asPixels (s .args .l .ppl)) (s .args .pixels .now) (s .args .marks .now) (l .pixels) (l .marks) (l .chain) (l .k)
     (l .inv) (c .loop-test .taken) (s .pre)
 
 loop-holds : tie.Need-loop-holds Inv-loop μ-loop
 loop-holds c =
     let a = c .before .before .before .before .before .args in
-    lines-first (rasterOf (a .l) (a .bytes .now)) (a .pixels .now) (a .marks .now)
+    lines-first (rasterOf (a .l) (a .bytes .now)) (asPixels (a .l .ppl)) (a .pixels .now) (a .marks .now)
 
 mul-from : tie.Need-mul-from Inv-loop μ-loop
 mul-from c = omega (arith, room c)
@@ -58,7 +59,7 @@ read-line-requires c κs =
         s .pre .nol-most,
         (
           l .inv .chain,
-          (m, lent-length r (s .args .pixels .now) (s .args .marks .now) (l .pixels) (l .marks) (l .chain) (l .k) (l .inv) m (s .pre)),
+          (m, lent-length r (asPixels (s .args .l .ppl)) (s .args .pixels .now) (s .args .marks .now) (l .pixels) (l .marks) (l .chain) (l .k) (l .inv) m (s .pre)),
         ),
       ),
     )
@@ -83,7 +84,7 @@ loop-again c =
     let l = t .before .loop in
     let s = t .before .before .before .before .before .before .before in
     let r = rasterOf (s .args .l) (s .args .bytes .now) in
-    lines-next r (s .args .pixels .now) (s .args .marks .now) (l .pixels) (l .marks) (l .chain) (l .k) (l .inv) (t .loop-test .taken) (s .pre)
+    lines-next r (asPixels (s .args .l .ppl)) (s .args .pixels .now) (s .args .marks .now) (l .pixels) (l .marks) (l .chain) (l .k) (l .inv) (t .loop-test .taken) (s .pre)
     (y .read-line .result) (y .read-line .last .1 .1 .1 .1 .0) (y .read-line .ensures)
 
 same-length : tie.Need-same-length Inv-loop μ-loop
@@ -97,7 +98,7 @@ returns c =
     let l = c .before .loop in
     let a = c .before .before .before .before .before .before .before .args in
     let e : l .k ≡ a .l .nol = omega (arith, l .inv .low, c .loop-test .left) in
-    lines-done (rasterOf (a .l) (a .bytes .now)) (a .pixels .now) (a .marks .now) (l .pixels) (l .marks) (l .chain) (l .k) (l .inv) e
+    lines-done (rasterOf (a .l) (a .bytes .now)) (asPixels (a .l .ppl)) (a .pixels .now) (a .marks .now) (l .pixels) (l .marks) (l .chain) (l .k) (l .inv) e
 
 pub read-lines-spec : {M : Type 1} → statement M
 read-lines-spec =

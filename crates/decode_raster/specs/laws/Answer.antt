@@ -1,18 +1,47 @@
--- What is known of a raster's chain on the way.
+-- What is known of a raster's chain on the way, and how its rows are stored.
 use Prim.Native.Nat.{ℕ, _+_, _*_, _≤_}
-use mathlib.Core.Path.{_≡_}
+use mathlib.Core.Path.{_≡_, refl, _∙_, ap}
 use mathlib.Core.Bool.{not}
-use mathlib.Core.List.{List}
+use mathlib.Core.List.{List, [], _++_}
 use lib.ListN.{length}
+use Rattle.units.specs.Counts.{wordBytes}
+use Rattle.units.specs.Words.{wordsToBytes}
+use Rattle.units.specs.laws.Stores.{length-bytes, bytes-append}
 use Rattle.limits.specs.Limits.{mostLines}
 use Rattle.layout.specs.Chain.{Raster, start, reached, readingAt, goodCount}
 use Rattle.decode_raster.specs.declared.Chain.{Chain}
 
+-- A way to store rows of p pixels: what a list of pixels is in the buffer, and the places that a row takes there.
+pub record Storing (p : ℕ) : Type 0 where
+  pub image : List ℕ → List ℕ
+  pub width : ℕ
+  pub none : image [] ≡ []
+  pub more : (a b : List ℕ) → image (a ++ b) ≡ image a ++ image b
+  pub row-width : (row : List ℕ) → length row ≡ p → length (image row) ≡ width
+
+-- as pixels of 16 bits, and as bytes, two for each
+abbrev pub asPixels : (p : ℕ) → Storing p
+asPixels p = record { image = λ row. row; width = p; none = refl; more = λ a b. refl; row-width = λ row l. l }
+
+pub no-bytes : wordsToBytes [] ≡ []
+unfolding wordsToBytes
+no-bytes = refl
+
+abbrev pub asBytes : (p : ℕ) → Storing p
+asBytes p =
+    record {
+      image = wordsToBytes;
+      width = wordBytes p;
+      none = no-bytes;
+      more = bytes-append;
+      row-width = λ row l. length-bytes row ∙ ap wordBytes l;
+    }
+
 -- the limits by which nothing overflows, and buffers with room for every row and status
-pub record Fits (r : Raster) (pixels marks : ℕ) : Type 0 where
+pub record Fits (r : Raster) (width pixels marks : ℕ) : Type 0 where
   pub starts : r .dataStart ≤ length (r .bytes)
   pub nol-most : r .nol ≤ mostLines
-  pub pixels-fit : r .nol * r .ppl ≤ pixels
+  pub pixels-fit : r .nol * width ≤ pixels
   pub marks-fit : r .nol ≤ marks
 
 -- the chain before scanline k
@@ -22,7 +51,7 @@ pub record ChainAt (r : Raster) (k : ℕ) (c : Chain) : Type 0 where
   pub good : c .good ≡ goodCount r k
 
 -- the chain after scanline k, with its status and its row
-pub record Stepped (r : Raster) (k : ℕ) (c : Chain) (row : List ℕ) : Type 0 where
+pub record Stepped (r : Raster) (s : Storing (r .ppl)) (k : ℕ) (c : Chain) (row : List ℕ) : Type 0 where
   pub chain : ChainAt r (k + 1) c
   pub status : c .status ≡ readingAt r k .status
-  pub row-is : row ≡ readingAt r k .row
+  pub row-is : row ≡ s .image (readingAt r k .row)

@@ -1,91 +1,103 @@
--- The loop over scanlines: what holds before scanline k, at its start, from turn to turn and at its end.
-use Prim.Native.Nat.{ℕ, suc, _+_, _-_, _*_, _≤_, _<_, zero-le}
+-- The loop over scanlines: what holds before scanline k, at its start, from turn to turn and at its end, however rows are stored.
+use Prim.Native.Nat.{ℕ, zero, suc, _+_, _-_, _*_, _≤_, _<_, zero-le}
 use mathlib.Core.Path.{_≡_, refl, sym, _∙_, ap, subst⁻¹}
 use mathlib.Core.Bool.{false}
 use mathlib.Core.List.{List, [], _∷_, _++_}
 use native.Mathlib.Nat.{zero-mul, suc-mul}
 use native.Mathlib.Numerals.{add-one}
 use native.Mathlib.Omega.{arith}
-use lib.ListN.{length, drop, set, length-set}
+use lib.ListN.{length, drop, set, length-append, length-set}
 use borrow.Rule.Slice.PartMut.{midOf, putMid, mid-len, same-len-mid}
 use Rattle.units.specs.laws.Parts.{row-within, replace-part, store-next}
 use Rattle.layout.specs.Chain.{Raster, start, reached, readingAt, rows, statuses, goodCount}
-use Rattle.layout.specs.laws.Chain.{length-rows, length-reading, length-statuses}
+use Rattle.layout.specs.laws.Chain.{length-reading, length-statuses}
 use Rattle.decode_raster.specs.declared.Chain.{Chain}
-use Rattle.decode_raster.specs.laws.Answer.{Fits, ChainAt, Stepped}
+use Rattle.decode_raster.specs.laws.Answer.{Storing, Fits, ChainAt, Stepped}
 
-pub record LinesAt (r : Raster) (pixels₀ marks₀ pixels marks : List ℕ) (c : Chain) (k : ℕ) : Type 0 where
+pub record LinesAt (r : Raster) (s : Storing (r .ppl)) (pixels₀ marks₀ pixels marks : List ℕ) (c : Chain) (k : ℕ) : Type 0 where
   pub low : k ≤ r .nol
   pub chain : ChainAt r k c
-  pub pixels-is : pixels ≡ rows r k ++ drop (k * r .ppl) pixels₀
+  pub pixels-is : pixels ≡ s .image (rows r k) ++ drop (k * s .width) pixels₀
   pub marks-is : marks ≡ statuses r k ++ drop k marks₀
   pub pixels-length : length pixels ≡ length pixels₀
   pub marks-length : length marks ≡ length marks₀
 
 -- before the first
-pub lines-first : (r : Raster) (pixels marks : List ℕ)
-    → LinesAt r pixels marks pixels marks (record { at = r .dataStart; lost = false; good = 0; status = 0 }) 0
+pub lines-first : (r : Raster) (s : Storing (r .ppl)) (pixels marks : List ℕ)
+    → LinesAt r s pixels marks pixels marks (record { at = r .dataStart; lost = false; good = 0; status = 0 }) 0
 unfolding start reached goodCount rows statuses
-lines-first r pixels marks =
+lines-first r s pixels marks =
     record {
       low = zero-le;
       chain = record { at = refl; lost = refl; good = refl };
-      pixels-is = sym (ap (λ (n : ℕ). drop n pixels) (zero-mul (r .ppl)));
+      pixels-is = rw (s .none, zero-mul (s .width));
       marks-is = refl;
       pixels-length = refl;
       marks-length = refl;
     }
 
-module _ (r : Raster) (pixels₀ marks₀ pixels marks : List ℕ) (c : Chain) (k : ℕ) (now : LinesAt r pixels₀ marks₀ pixels marks c k)
-    (more : k < r .nol) (room : Fits r (length pixels₀) (length marks₀)) where
-  pub row-fits : k * r .ppl + r .ppl ≤ length pixels
-  row-fits = omega (arith, row-within k (r .nol) (r .ppl) (length pixels₀) more (room .pixels-fit), now .pixels-length)
+-- the places that k rows take
+rows-width : (r : Raster) (s : Storing (r .ppl)) (k : ℕ) → length (s .image (rows r k)) ≡ k * s .width
+unfolding rows
+rows-width r s zero = rw (s .none, zero-mul (s .width))
+rows-width r s (suc k) =
+    let row : length (s .image (readingAt r k .row)) ≡ s .width = s .row-width (readingAt r k .row) (length-reading r k) in
+    rw (s .more (rows r k) (readingAt r k .row), length-append (s .image (rows r k)) (s .image (readingAt r k .row)))
+    (omega (arith, rows-width r s k, suc-mul k (s .width)))
+
+module _ (r : Raster) (s : Storing (r .ppl)) (pixels₀ marks₀ pixels marks : List ℕ) (c : Chain) (k : ℕ) (now : LinesAt r s pixels₀ marks₀ pixels marks c k)
+    (more : k < r .nol) (room : Fits r (s .width) (length pixels₀) (length marks₀)) where
+  pub row-fits : k * s .width + s .width ≤ length pixels
+  row-fits = omega (arith, row-within k (r .nol) (s .width) (length pixels₀) more (room .pixels-fit), now .pixels-length)
 
   -- the part that is lent for row k has the row's length
-  pub lent-length : length (midOf (k * r .ppl) (k * r .ppl + r .ppl - k * r .ppl) pixels) ≡ r .ppl
-  lent-length = omega (arith, mid-len (k * r .ppl) (k * r .ppl + r .ppl) pixels row-fits)
+  pub lent-length : length (midOf (k * s .width) (k * s .width + s .width - k * s .width) pixels) ≡ s .width
+  lent-length = omega (arith, mid-len (k * s .width) (k * s .width + s .width) pixels row-fits)
 
   -- one scanline more
-  pub lines-next : (d : Chain) (row : List ℕ) → Stepped r k d row
-      → LinesAt r pixels₀ marks₀ (putMid (k * r .ppl) (k * r .ppl + r .ppl - k * r .ppl) pixels row) (set marks k (d .status)) d (k + 1)
+  pub lines-next : (d : Chain) (row : List ℕ) → Stepped r s k d row
+      → LinesAt r s pixels₀ marks₀ (putMid (k * s .width) (k * s .width + s .width - k * s .width) pixels row) (set marks k (d .status)) d (k + 1)
   unfolding rows statuses
-  lines-next d row s =
-      let p = r .ppl in
-      let full : length row ≡ p = ap length (s .row-is) ∙ length-reading r k in
-      let e : k * p + p ≡ k * p + length row = ap (λ (n : ℕ). k * p + n) (sym full) in
-      let end : suc k * p ≡ k * p + p = suc-mul k p in
-      let g : k * p + p ≤ length pixels₀ = row-within k (r .nol) p (length pixels₀) more (room .pixels-fit) in
+  lines-next d row x =
+      let w = s .width in
+      let full : length row ≡ w = ap length (x .row-is) ∙ s .row-width (readingAt r k .row) (length-reading r k) in
+      let e : k * w + w ≡ k * w + length row = ap (λ (n : ℕ). k * w + n) (sym full) in
+      let end : suc k * w ≡ k * w + w = suc-mul k w in
+      let g : k * w + w ≤ length pixels₀ = row-within k (r .nol) w (length pixels₀) more (room .pixels-fit) in
       let m : k < length marks₀ = omega (arith, room .marks-fit) in
       subst⁻¹
-      (λ (i : ℕ). LinesAt r pixels₀ marks₀ (putMid (k * p) (k * p + p - k * p) pixels row) (set marks k (d .status)) d i)
+      (λ (i : ℕ). LinesAt r s pixels₀ marks₀ (putMid (k * w) (k * w + w - k * w) pixels row) (set marks k (d .status)) d i)
       (add-one k)
       (record {
         low = more;
-        chain = ap-chain (s .chain);
+        chain = ap-chain (x .chain);
         pixels-is =
-            ap (λ (x : List ℕ). putMid (k * p) (k * p + p - k * p) x row) (now .pixels-is)
-            ∙ replace-part (rows r k) row pixels₀ (k * p) (k * p + p) (length-rows r k) e g
-            ∙ ap (λ (x : List ℕ). (rows r k ++ x) ++ drop (k * p + p) pixels₀) (s .row-is)
-            ∙ ap (λ (n : ℕ). (rows r k ++ readingAt r k .row) ++ drop n pixels₀) (sym end);
+            ap (λ (y : List ℕ). putMid (k * w) (k * w + w - k * w) y row) (now .pixels-is)
+            ∙ replace-part (s .image (rows r k)) row pixels₀ (k * w) (k * w + w) (rows-width r s k) e g
+            ∙ ap (λ (y : List ℕ). (s .image (rows r k) ++ y) ++ drop (k * w + w) pixels₀) (x .row-is)
+            ∙ ap (λ (y : List ℕ). y ++ drop (k * w + w) pixels₀) (sym (s .more (rows r k) (readingAt r k .row)))
+            ∙ ap (λ (n : ℕ). s .image (rows r k ++ readingAt r k .row) ++ drop n pixels₀) (sym end);
         marks-is =
-            ap (λ (x : List ℕ). set x k (d .status)) (now .marks-is)
+            ap (λ (y : List ℕ). set y k (d .status)) (now .marks-is)
             ∙ store-next (statuses r k) marks₀ k (d .status) (length-statuses r k) m
-            ∙ ap (λ (v : ℕ). (statuses r k ++ (v ∷ [])) ++ drop (suc k) marks₀) (s .status);
-        pixels-length = same-len-mid (k * p) (k * p + p - k * p) pixels row (full ∙ sym lent-length) ∙ now .pixels-length;
+            ∙ ap (λ (v : ℕ). (statuses r k ++ (v ∷ [])) ++ drop (suc k) marks₀) (x .status);
+        pixels-length = same-len-mid (k * w) (k * w + w - k * w) pixels row (full ∙ sym lent-length) ∙ now .pixels-length;
         marks-length = length-set marks k (d .status) ∙ now .marks-length;
       })
     where
       ap-chain : ChainAt r (k + 1) d → ChainAt r (suc k) d
-      ap-chain x = rw add-one at x
+      ap-chain y = rw add-one at y
 
 -- all are read
-pub record Done (r : Raster) (pixels₀ marks₀ pixels marks : List ℕ) (c : Chain) : Type 0 where
+pub record Done (r : Raster) (s : Storing (r .ppl)) (pixels₀ marks₀ pixels marks : List ℕ) (c : Chain) : Type 0 where
   pub chain : ChainAt r (r .nol) c
-  pub pixels-is : pixels ≡ rows r (r .nol) ++ drop (r .nol * r .ppl) pixels₀
+  pub pixels-is : pixels ≡ s .image (rows r (r .nol)) ++ drop (r .nol * s .width) pixels₀
   pub marks-is : marks ≡ statuses r (r .nol) ++ drop (r .nol) marks₀
 
-pub lines-done : (r : Raster) (pixels₀ marks₀ pixels marks : List ℕ) (c : Chain) (k : ℕ) → LinesAt r pixels₀ marks₀ pixels marks c k → k ≡ r .nol
-    → Done r pixels₀ marks₀ pixels marks c
-lines-done r pixels₀ marks₀ pixels marks c k l e =
-    let d : LinesAt r pixels₀ marks₀ pixels marks c (r .nol) = rw e at l in
+pub lines-done : (r : Raster) (s : Storing (r .ppl)) (pixels₀ marks₀ pixels marks : List ℕ) (c : Chain) (k : ℕ)
+    → LinesAt r s pixels₀ marks₀ pixels marks c k
+    → k ≡ r .nol
+    → Done r s pixels₀ marks₀ pixels marks c
+lines-done r s pixels₀ marks₀ pixels marks c k l e =
+    let d : LinesAt r s pixels₀ marks₀ pixels marks c (r .nol) = rw e at l in
     record { chain = d .chain; pixels-is = d .pixels-is; marks-is = d .marks-is }

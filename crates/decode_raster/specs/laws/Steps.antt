@@ -8,24 +8,29 @@ use native.Mathlib.Numerals.{add-one}
 use native.Mathlib.Omega.{arith}
 use lib.ListN.{length, take, length-drop}
 use lib.Dec.{eqb}
+use lib.Seq.{take-all}
 use borrow.Author.Tests.{not-true, not-false}
-use Rattle.units.specs.Over.{zeros}
+use Rattle.units.specs.Counts.{wordBytes}
+use Rattle.units.specs.Over.{over, zeros}
+use Rattle.units.specs.Words.{wordsToBytes}
+use Rattle.units.specs.laws.Over.{over-full}
 use Rattle.units.specs.laws.Parts.{rest-is}
+use Rattle.units.specs.laws.Stores.{length-bytes}
 use Rattle.layout.specs.Scanline.{Reading, stepOf, readingOf}
 use Rattle.layout.specs.Chain.{Raster, from, stepAt, start, reached, numberOf, readingAt, oneIfGood, goodCount}
 use Rattle.layout.specs.laws.Line.{used-within}
 use Rattle.layout.specs.laws.Chain.{start-suc, reached-suc, reading-reached, reading-unreached, unreached-start, unreached-suc, good-suc}
 use Rattle.decode_scanline.specs.declared.Scanline.{Scanline}
-use Rattle.decode_scanline.specs.Answer.{IsLine}
+use Rattle.decode_scanline.specs.Answer.{IsScan}
 use Rattle.decode_raster.specs.declared.Chain.{Chain}
-use Rattle.decode_raster.specs.laws.Answer.{ChainAt, Stepped}
+use Rattle.decode_raster.specs.laws.Answer.{Storing, ChainAt, Stepped}
 
 -- the next scanline starts within the bytes
-pub next-within : (r : Raster) (at number : ℕ) (l : Scanline) (row : List ℕ) → at ≤ length (r .bytes)
-    → IsLine (stepOf (r .scn) (r .dataType) (r .ppl) (take (length (r .bytes) - at) (from r at)))
-    (readingOf (r .scn) (r .dataType) (r .ppl) number (take (length (r .bytes) - at) (from r at))) l row
+pub next-within : (r : Raster) (at number : ℕ) (l : Scanline) → at ≤ length (r .bytes)
+    → IsScan (stepOf (r .scn) (r .dataType) (r .ppl) (take (length (r .bytes) - at) (from r at)))
+    (readingOf (r .scn) (r .dataType) (r .ppl) number (take (length (r .bytes) - at) (from r at))) l
     → at + l .used .0 ≤ length (r .bytes)
-next-within r at number l row h line =
+next-within r at number l h line =
     omega (
       arith,
       line .used,
@@ -41,9 +46,9 @@ one-most status = go (eqb status 0)
     go true = omega arith
     go false = omega arith
 
-module _ (r : Raster) (k : ℕ) (c : Chain) (h : ChainAt r k c) where
-  pub step-lost : c .lost ≡ true → (row : List ℕ) → row ≡ zeros (r .ppl)
-      → Stepped r k (record { at = c .at; lost = true; good = c .good; status = 9 }) row
+module _ (r : Raster) (s : Storing (r .ppl)) (k : ℕ) (c : Chain) (h : ChainAt r k c) where
+  pub step-lost : c .lost ≡ true → (row : List ℕ) → row ≡ s .image (zeros (r .ppl))
+      → Stepped r s k (record { at = c .at; lost = true; good = c .good; status = 9 }) row
   step-lost l row e =
       let u : reached r k ≡ false = not-true (reached r k) (sym (h .lost) ∙ l) in
       let x = reading-unreached r k u in
@@ -56,22 +61,23 @@ module _ (r : Raster) (k : ℕ) (c : Chain) (h : ChainAt r k c) where
               good = h .good ∙ sym (good-suc r k ∙ ap (λ (y : Reading). goodCount r k + oneIfGood (y .status)) x ∙ add-zero (goodCount r k));
             });
         status = sym (ap (λ (y : Reading). y .status) x);
-        row-is = e ∙ sym (ap (λ (y : Reading). y .row) x);
+        row-is = e ∙ sym (ap (λ (y : Reading). s .image (y .row)) x);
       }
 
   pub step-on : c .lost ≡ false → (l : Scanline) (row : List ℕ) (one : ℕ)
-      → IsLine (stepOf (r .scn) (r .dataType) (r .ppl) (take (length (r .bytes) - c .at) (from r (c .at))))
-      (readingOf (r .scn) (r .dataType) (r .ppl) (k + 1) (take (length (r .bytes) - c .at) (from r (c .at)))) l row
+      → IsScan (stepOf (r .scn) (r .dataType) (r .ppl) (take (length (r .bytes) - c .at) (from r (c .at))))
+      (readingOf (r .scn) (r .dataType) (r .ppl) (k + 1) (take (length (r .bytes) - c .at) (from r (c .at)))) l
+      → row ≡ s .image (readingOf (r .scn) (r .dataType) (r .ppl) (k + 1) (take (length (r .bytes) - c .at) (from r (c .at))) .row)
       → one ≡ oneIfGood (l .status)
-      → Stepped r k (record { at = c .at + l .used .0; lost = l .lost; good = c .good + one; status = l .status }) row
-  step-on kept l row one line counted =
+      → Stepped r s k (record { at = c .at + l .used .0; lost = l .lost; good = c .good + one; status = l .status }) row
+  step-on kept l row one line stored counted =
       let u : reached r k ≡ true = not-false (reached r k) (sym (h .lost) ∙ kept) in
       let x = reading-reached r k u in
-      let there : IsLine (stepAt r (start r k)) (readingOf (r .scn) (r .dataType) (r .ppl) (numberOf r k) (from r (start r k))) l row =
-      subst (λ (s : ℕ). IsLine (stepAt r s) (readingOf (r .scn) (r .dataType) (r .ppl) (numberOf r k) (from r s)) l row) (h .at)
-      (subst (λ (b : List ℕ). IsLine (stepOf (r .scn) (r .dataType) (r .ppl) b) (readingOf (r .scn) (r .dataType) (r .ppl) (k + 1) b) l row)
-      (rest-is (r .bytes) (c .at)) line) in
-      let s : l .status ≡ readingAt r k .status = there .status ∙ sym (ap (λ (y : Reading). y .status) x) in
+      let rest : take (length (r .bytes) - c .at) (from r (c .at)) ≡ from r (start r k) =
+      rest-is (r .bytes) (c .at) ∙ ap (from r) (h .at) in
+      let there : IsScan (stepAt r (start r k)) (readingOf (r .scn) (r .dataType) (r .ppl) (numberOf r k) (from r (start r k))) l =
+      subst (λ (b : List ℕ). IsScan (stepOf (r .scn) (r .dataType) (r .ppl) b) (readingOf (r .scn) (r .dataType) (r .ppl) (k + 1) b) l) rest line in
+      let y : l .status ≡ readingAt r k .status = there .status ∙ sym (ap (λ (z : Reading). z .status) x) in
       record {
         chain =
             subst⁻¹ (λ (i : ℕ). ChainAt r i (record { at = c .at + l .used .0; lost = l .lost; good = c .good + one; status = l .status })) (add-one k)
@@ -83,13 +89,22 @@ module _ (r : Raster) (k : ℕ) (c : Chain) (h : ChainAt r k c) where
                   ∙ sym (ap not (reached-suc r k ∙ ap (λ (b : Bool). b && not (stepAt r (start r k) .lost)) u));
               good =
                   ap (λ (g : ℕ). g + one) (h .good)
-                  ∙ ap (λ (m : ℕ). goodCount r k + m) (counted ∙ ap oneIfGood s)
+                  ∙ ap (λ (m : ℕ). goodCount r k + m) (counted ∙ ap oneIfGood y)
                   ∙ sym (good-suc r k);
             });
-        status = s;
-        row-is = there .row-is ∙ sym (ap (λ (y : Reading). y .row) x);
+        status = y;
+        row-is =
+            stored
+            ∙ ap (λ (b : List ℕ). s .image (readingOf (r .scn) (r .dataType) (r .ppl) (k + 1) b .row)) rest
+            ∙ sym (ap (λ (z : Reading). s .image (z .row)) x);
       }
     where
       twice : (b : Bool) → b ≡ not (not b)
       twice true = refl
       twice false = refl
+
+-- bytes that fill a row of bytes whole
+pub bytes-full : (row old : List ℕ) (p : ℕ) → length row ≡ p → length old ≡ wordBytes p → over (wordsToBytes row) old ≡ wordsToBytes row
+bytes-full row old p l m =
+    let n : length (wordsToBytes row) ≡ wordBytes p = length-bytes row ∙ ap wordBytes l in
+    over-full (wordsToBytes row) old (omega arith) ∙ take-all (length old) (wordsToBytes row) (omega arith)

@@ -15,10 +15,10 @@ use Rattle.units.specs.Counts.{bytesOfWords, wordBytes}
 use Rattle.units.specs.Over.{over, zeros}
 use Rattle.units.specs.Words.{wordsToBytes}
 use Rattle.units.specs.laws.Over.{over-full, over-fits}
-use Rattle.layout.specs.Scanline.{headOf, bodyOf, following, reading, headedReading, openReading, headedStep, openStep, stepOf, readingOf}
+use Rattle.layout.specs.Scanline.{Reading, Step, headOf, bodyOf, following, reading, headedReading, openReading, headedStep, openStep, stepOf, readingOf}
 use Rattle.layout.specs.laws.Line.{NotLost, not-lost, is-not-lost, no-fault, row-by-status, length-row}
 use Rattle.decode_scanline.specs.declared.Scanline.{Scanline}
-use Rattle.decode_scanline.specs.Answer.{IsScan}
+use Rattle.decode_scanline.specs.Answer.{IsScan, IsLine}
 
 -- after the header, where there is one
 abbrev pub bodyStart : ℕ → ℕ
@@ -89,7 +89,7 @@ module _ (scn t p number : ℕ) (rest : List ℕ) where
         ≡ over (wordsToBytes (readingOf scn t p number rest .row)) old
     painted-bytes old start none = ap (λ (l : List ℕ). over (wordsToBytes l) old) (sym (good-line start none .row-is))
 
-zero-bytes : (n : ℕ) → wordsToBytes (zeros n) ≡ zeros (wordBytes n)
+pub zero-bytes : (n : ℕ) → wordsToBytes (zeros n) ≡ zeros (wordBytes n)
 unfolding wordsToBytes
 zero-bytes zero = refl
 zero-bytes (suc n) =
@@ -102,3 +102,6 @@ pub cleared-bytes : (n end : ℕ) (old row : List ℕ) → end ≡ wordBytes n �
 cleared-bytes n end old row e fits z =
     let l : length (zeros (wordBytes n)) ≡ wordBytes n = length-replicate (wordBytes n) 0 in
     rw (z, zero-bytes n, over-fits (zeros (wordBytes n)) old (omega arith), l, e)
+
+pub scan-of : {s : Step} {x : Reading} {r : Scanline} {row : List ℕ} → IsLine s x r row → IsScan s x r
+scan-of l = record { status = l .status; lost = l .lost; used = l .used }

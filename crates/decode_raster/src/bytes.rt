@@ -1,0 +1,101 @@
+// The reading of a whole raster into bytes, two for each pixel, low byte first.
+ghost use mathlib.Core.Path.{_≡_};
+ghost use Prim.Native.Nat.{_≤_, _<_};
+ghost use lib.ListN.{length};
+ghost use Rattle.units.specs.Counts.{wordBytes};
+ghost use Rattle.limits.specs.Limits.{mostLines};
+ghost use Rattle.layout.specs.Chain.{rasterOf};
+ghost use Rattle.layout.specs.PixelBytes.{bytesReading, pixelBytesAfter, byteMarksAfter};
+ghost use Rattle.decode_raster.specs.Answer.{rasterNumbers};
+ghost use Rattle.decode_raster.specs.laws.Answer.{asBytes, Fits, ChainAt, Stepped};
+ghost use Rattle.decode_raster.specs.laws.Lines.{Done};
+use crate::Chain;
+use crate::RasterAnswer;
+use crate::answer_of;
+use crate::one_if_good;
+use crate::raster_rejection;
+use crate::sheet_layout;
+use decode_scanline::read_scanline_bytes;
+use layout::RasterLayout;
+use slices::clear;
+use units::Bytes;
+use units::Words;
+use units::bytes_to_words;
+use units::words_to_bytes;
+
+// Reads the raster of a file: pixels as two bytes each, row after row, and a status for each scanline.
+pub fn read_raster_bytes(file: &[u8], pixels: &mut [u8], marks: &mut [u8]) -> RasterAnswer
+    ensures { λ r. ⌜ rasterNumbers r ≡ bytesReading (now (file .entry)) (now (pixels .entry)) (now (marks .entry)) ⌝ }
+    ensures { λ r. ⌜ now (pixels .exit) ≡ pixelBytesAfter (now (file .entry)) (now (pixels .entry)) (now (marks .entry)) ⌝ }
+    ensures { λ r. ⌜ now (marks .exit) ≡ byteMarksAfter (now (file .entry)) (now (pixels .entry)) (now (marks .entry)) ⌝ }
+{
+    let room = bytes_to_words(Bytes(pixels.len())).0;
+    let number = raster_rejection(file, room, marks.len());
+    if number != 0 {
+        return RasterAnswer {
+            answer: number as u32,
+            good: 0,
+            end: 0,
+        };
+    }
+    let sheet = sheet_layout(file);
+    let chain = read_lines(file, sheet, pixels, marks);
+    RasterAnswer {
+        answer: answer_of(chain.good, sheet.nol),
+        good: chain.good,
+        end: chain.at,
+    }
+}
+
+// Reads the scanlines one after the other, each into its own part of the bytes.
+fn read_lines(bytes: &[u8], l: RasterLayout, pixels: &mut [u8], marks: &mut [u8]) -> Chain
+    requires { ⌜ Fits (rasterOf l (now bytes)) (wordBytes (l .ppl)) (length (now pixels)) (length (now marks)) ⌝ }
+    ensures { λ r. ⌜ Done (rasterOf l (now (bytes .entry))) (asBytes (l .ppl)) (now (pixels .entry)) (now (marks .entry)) (now (pixels .exit)) (now (marks .exit)) r ⌝ }
+{
+    let width = words_to_bytes(Words(l.ppl as usize)).0;
+    let n = l.nol as usize;
+    let mut chain = Chain {
+        at: l.start,
+        lost: false,
+        good: 0,
+        status: 0,
+    };
+    let mut k = 0;
+    while k < n {
+        let from = k * width;
+        let to = from + width;
+        chain = read_line(bytes, l, chain, k, &mut pixels[from..to]);
+        marks[k] = chain.status;
+        k += 1;
+    }
+    chain
+}
+
+// Reads scanline k, counted from 0, where the chain has come to it. After a lost one only zeros are stored.
+fn read_line(bytes: &[u8], l: RasterLayout, chain: Chain, k: usize, row: &mut [u8]) -> Chain
+    requires { ⌜ l .start ≤ length (now bytes) ⌝ }
+    requires { ⌜ l .nol ≤ mostLines ⌝ }
+    requires { ⌜ ChainAt (rasterOf l (now bytes)) k chain ⌝ }
+    requires { ⌜ k < l .nol ⌝ }
+    requires { ⌜ length (now row) ≡ wordBytes (l .ppl) ⌝ }
+    ensures { λ r. ⌜ Stepped (rasterOf l (now (bytes .entry))) (asBytes (l .ppl)) k r (now (row .exit)) ⌝ }
+{
+    let at = chain.at;
+    if chain.lost {
+        clear(row);
+        return Chain {
+            at,
+            lost: true,
+            good: chain.good,
+            status: 9,
+        };
+    }
+    let number = (k + 1) as u16;
+    let line = read_scanline_bytes(l.scn, l.dtc, number, &bytes[at..], row);
+    Chain {
+        at: at + line.used.0,
+        lost: line.lost,
+        good: chain.good + one_if_good(line.status),
+        status: line.status,
+    }
+}
