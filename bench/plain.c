@@ -366,27 +366,28 @@ static void move_rows(const uint16_t *restrict in, uint16_t *restrict out, size_
     }
 }
 
-#ifndef TILE
-#define TILE 32 /* the fastest of 8, 16, 32, 64 and 128 */
-#endif
+/* The tile was chosen by timing: of 4 to 128 pixels by 8 to 512 lines, and of loops along the lines
+ * and across them, it took the least time. */
+enum { TILE_WIDTH = 8, TILE_HEIGHT = 128 };
 
 /* Rows become columns: pixel x of row y comes to row x and column y, each mirrored or not. By tiles,
  * so that the cache lines that are written are full before they leave. */
 static void move_columns(const uint16_t *restrict in, uint16_t *restrict out, size_t width,
                          size_t height, int flip_x, int flip_y)
 {
-    for (size_t y0 = 0; y0 < height; y0 += TILE) {
-        const size_t y1 = height - y0 < TILE ? height : y0 + TILE;
-        for (size_t x0 = 0; x0 < width; x0 += TILE) {
-            const size_t x1 = width - x0 < TILE ? width : x0 + TILE;
-            for (size_t x = x0; x < x1; x++) {
-                uint16_t *to = out + (flip_x ? width - 1 - x : x) * height;
-                if (flip_y)
-                    for (size_t y = y0; y < y1; y++)
-                        to[height - 1 - y] = in[y * width + x];
+    for (size_t y0 = 0; y0 < height; y0 += TILE_HEIGHT) {
+        const size_t y1 = height - y0 < TILE_HEIGHT ? height : y0 + TILE_HEIGHT;
+        for (size_t x0 = 0; x0 < width; x0 += TILE_WIDTH) {
+            const size_t x1 = width - x0 < TILE_WIDTH ? width : x0 + TILE_WIDTH;
+            for (size_t y = y0; y < y1; y++) {
+                const uint16_t *from = in + y * width;
+                uint16_t *to = out + (flip_y ? height - 1 - y : y);
+                if (flip_x)
+                    for (size_t x = x0; x < x1; x++)
+                        to[(width - 1 - x) * height] = from[x];
                 else
-                    for (size_t y = y0; y < y1; y++)
-                        to[y] = in[y * width + x];
+                    for (size_t x = x0; x < x1; x++)
+                        to[x * height] = from[x];
             }
         }
     }
