@@ -154,7 +154,8 @@ uint32_t plain_color(const uint8_t *file, size_t file_size, uint32_t value,
     return 0;
 }
 
-/* Reading. Pixels are painted as they are checked; where a fault shows the row is cleared. */
+/* Reading. Pixels are painted as they are checked, and where a fault shows the row is cleared: to
+ * total a body first makes damaged rasters a tenth faster, and good ones of many runs as much slower. */
 
 /* Fills pixels from `at`, with `room` bytes up to the end of the row, which later pixels overwrite:
  * a short run is one store of eight pixels. */
