@@ -21,6 +21,7 @@ static uint8_t file[BYTES];
 static size_t file_size;
 static uint16_t picture[PIXELS];
 static unsigned long compared, unequal;
+static unsigned long results[64], marks[64]; /* how often each was met */
 
 static void clear(void)
 {
@@ -31,6 +32,7 @@ static void clear(void)
 static void compare(const char *name)
 {
     compared++;
+    results[theirs.result % 64]++;
     if (memcmp(&mine, &theirs, offsetof(struct left, big) + reach) != 0 && unequal++ < 10)
         printf("bench: %s: %u and %u, or other buffers\n", name, mine.result, theirs.result);
 }
@@ -70,7 +72,6 @@ static size_t length(size_t needed, size_t most)
     return needed < most ? needed : most;
 }
 
-/* Writes a picture; leaves it in `file` where both sides wrote it. */
 static void write_both(uint32_t type, uint32_t ppl, uint32_t nol, uint32_t scn)
 {
     static uint8_t table[1024];
@@ -96,18 +97,22 @@ static void write_both(uint32_t type, uint32_t ppl, uint32_t nol, uint32_t scn)
     theirs.result = PLAIN.write(some_type, some_ppl, some_nol, slo, some_scn, drs, table, table_size, picture,
                                 pixels, theirs.big, room, theirs.answer, answer_size);
     compare("writing");
-    if (mine.result == 0) {
-        file_size = mine.answer[0] + 256u * mine.answer[1] + 65536u * mine.answer[2];
-        memcpy(file, mine.big, file_size);
-    }
+}
+
+/* Makes a file of the picture that is right; without scanline headers where bodies are too long for
+ * them. */
+static void make_file(uint32_t type, uint32_t ppl, uint32_t nol, uint32_t scn)
+{
+    uint8_t size[4];
+    if (PLAIN.write(type, ppl, nol, chance(8), scn, chance(65536), NULL, 0, picture, PIXELS, file, BYTES, size, 4) != 0)
+        PLAIN.write(type, ppl, nol, chance(8), 0, chance(65536), NULL, 0, picture, PIXELS, file, BYTES, size, 4);
+    file_size = size[0] + 256u * size[1] + 65536u * size[2];
 }
 
 /* Cuts the file, or changes some bytes: in the header, in the first lines' headers or anywhere. */
 static void damage(void)
 {
     static const uint16_t FIELDS[] = {0, 1, 2, 3, 4, 5, 184, 185, 186, 187, 188, 189, 192, 193, 194, 195, 511, 532, 533, 536, 537, 538};
-    if (file_size < 1024)
-        return;
     if (chance(6) == 0)
         file_size = chance(4) == 0 ? chance((uint32_t)file_size + 1) : file_size - chance((uint32_t)(file_size - 1024 < 20 ? file_size - 1023 : 20));
     if (file_size < 1024)
@@ -129,6 +134,8 @@ static void read_both(size_t pixels, size_t lines)
     mine.result = OURS.raster(file, file_size, mine.big + odd, pixels_size, mine.marks, marks_size, mine.answer, answer_size);
     theirs.result = PLAIN.raster(file, file_size, theirs.big + odd, pixels_size, theirs.marks, marks_size, theirs.answer, answer_size);
     compare("reading");
+    for (size_t k = 0; k < lines && theirs.result <= 1; k++)
+        marks[theirs.marks[k] % 64]++;
     clear();
     mine.result = OURS.header(file, file_size, mine.answer, head_size);
     theirs.result = PLAIN.header(file, file_size, theirs.answer, head_size);
@@ -157,6 +164,22 @@ static void turn_both(uint32_t ppl, uint32_t nol)
     compare("turning");
 }
 
+/* Counts what was not met, so that nothing passes that looked at too little: every mark, and every
+ * result but 10, for which files are too small. */
+static void count_missing(void)
+{
+    for (unsigned number = 0; number <= 31; number++)
+        if (results[number] == 0 && (number <= 1 || number >= 11) && number != 30) {
+            printf("bench: no call gave %u\n", number);
+            unequal++;
+        }
+    for (unsigned mark = 0; mark <= 9; mark++)
+        if (marks[mark] == 0) {
+            printf("bench: no line was marked %u\n", mark);
+            unequal++;
+        }
+}
+
 unsigned long compare_by_chance(unsigned long count, unsigned long *how_many)
 {
     static const uint32_t TYPES[] = {2, 3, 9, 10};
@@ -166,7 +189,6 @@ unsigned long compare_by_chance(unsigned long count, unsigned long *how_many)
         const uint32_t ppl = wide ? WIDE - chance(chance(2) ? 4 : 40000) : 1 + chance(chance(2) ? 9 : 200);
         const uint32_t nol = wide ? 1 + chance(2) : 1 + chance(12);
         paint(picture, type, ppl, nol, chance(3) ? (int)(1 + chance(6)) : (int)chance(2) - 1);
-        file_size = 0;
         reach = 16 * ((size_t)ppl * nol + SPARE) + 2048; /* more than any of them needs */
         if (chance(16) == 0) {
             environ_v(file);
@@ -174,13 +196,15 @@ unsigned long compare_by_chance(unsigned long count, unsigned long *how_many)
             if (chance(3) == 0)
                 file[768 + chance(2048)] = (uint8_t)chance(256);
         } else {
-            write_both(type, ppl, nol, scn);
+            make_file(type, ppl, nol, scn);
         }
+        write_both(type, ppl, nol, scn);
         damage();
         read_both((size_t)ppl * nol, nol);
         color_both();
         turn_both(ppl, nol);
     }
+    count_missing();
     *how_many += unequal;
     return compared;
 }
