@@ -72,10 +72,17 @@ static size_t length(size_t needed, size_t most)
     return needed < most ? needed : most;
 }
 
+/* A resolution: none, the lowest there is, anything, and with bits that are cut off. */
+static uint32_t some_drs(void)
+{
+    static const uint32_t AT_THE_EDGE[] = {0, 1, 32767, 32768, 32769, 65535};
+    return chance(2) ? AT_THE_EDGE[chance(6)] : chance(65536) + 65536 * chance(chance(2) ? 1 : 65536);
+}
+
 static void write_both(uint32_t type, uint32_t ppl, uint32_t nol, uint32_t scn)
 {
     static uint8_t table[1024];
-    const uint32_t slo = near_by(chance(8)), drs = chance(2) ? chance(65536) : near_by(0) * 65536;
+    const uint32_t slo = near_by(chance(8)), drs = some_drs();
     const uint32_t some_type = near_by(type), some_ppl = near_by(ppl), some_nol = near_by(nol), some_scn = near_by(scn);
     const size_t table_size = chance(3) ? 0 : length(768, sizeof table), pixels = length((size_t)ppl * nol, PIXELS);
     const size_t answer_size = length(4, sizeof mine.answer);
@@ -104,8 +111,8 @@ static void write_both(uint32_t type, uint32_t ppl, uint32_t nol, uint32_t scn)
 static void make_file(uint32_t type, uint32_t ppl, uint32_t nol, uint32_t scn)
 {
     uint8_t size[4];
-    if (PLAIN.write(type, ppl, nol, chance(8), scn, chance(65536), NULL, 0, picture, PIXELS, file, BYTES, size, 4) != 0)
-        PLAIN.write(type, ppl, nol, chance(8), 0, chance(65536), NULL, 0, picture, PIXELS, file, BYTES, size, 4);
+    if (PLAIN.write(type, ppl, nol, chance(8), scn, some_drs(), NULL, 0, picture, PIXELS, file, BYTES, size, 4) != 0)
+        PLAIN.write(type, ppl, nol, chance(8), 0, some_drs(), NULL, 0, picture, PIXELS, file, BYTES, size, 4);
     file_size = size[0] + 256u * size[1] + 65536u * size[2];
 }
 
@@ -185,10 +192,10 @@ unsigned long compare_by_chance(unsigned long count, unsigned long *how_many)
     static const uint32_t TYPES[] = {2, 3, 9, 10};
     for (unsigned long i = 0; i < count; i++) {
         const uint32_t type = TYPES[chance(4)], scn = chance(2);
-        const int wide = chance(50) == 0;
-        const uint32_t ppl = wide ? WIDE - chance(chance(2) ? 4 : 40000) : 1 + chance(chance(2) ? 9 : 200);
+        const int wide = chance(50) == 0; /* where runs are cut, and bodies too long */
+        const uint32_t ppl = wide ? (chance(2) ? 65532 : 32765) + chance(4) : 1 + chance(chance(2) ? 9 : 200);
         const uint32_t nol = wide ? 1 + chance(2) : 1 + chance(12);
-        paint(picture, type, ppl, nol, chance(3) ? (int)(1 + chance(6)) : (int)chance(2) - 1);
+        paint(picture, type, ppl, nol, chance(3) ? (int)(1 + chance(wide ? 2 : 6)) : (int)chance(2) - 1);
         reach = 16 * ((size_t)ppl * nol + SPARE) + 2048; /* more than any of them needs */
         if (chance(16) == 0) {
             environ_v(file);

@@ -173,6 +173,32 @@ static void turned(uint32_t ppl, uint32_t nol)
     }
 }
 
+/* 10, with memory that is only ever read and so takes no room: a file of 2,147,483,647 bytes and one
+ * of a byte more, and pixels of which as long a file would be written. */
+static void longest(void)
+{
+    const size_t most = 2147483647, words = (most - 1024) / 2;
+    const uint32_t ppl = 65535, nol = (uint32_t)(words / ppl);
+    uint8_t answer[INGR_HEADER_ANSWER];
+    const size_t room = INGR_PIXEL_BYTES(ppl, nol + 1); /* more than the file, by part of a line */
+    uint8_t *zeros = mmap(NULL, room, PROT_READ, MAP_PRIVATE | MAP_ANONYMOUS | MAP_NORESERVE, -1, 0);
+    if (zeros == MAP_FAILED) {
+        perror("c_guard: mmap");
+        exit(1);
+    }
+    check(ingr_header(zeros, most, answer, sizeof answer) == INGR_BAD_HTC, "the longest file");
+    check(ingr_header(zeros, most + 1, answer, sizeof answer) == INGR_FILE_TOO_LONG &&
+              ingr_color(zeros, most + 1, 0, answer, sizeof answer) == INGR_FILE_TOO_LONG &&
+              ingr_raster(zeros, most + 1, NULL, 0, NULL, 0, answer, sizeof answer) == INGR_FILE_TOO_LONG,
+          "a file that is too long");
+    const uint16_t *pixels = (const uint16_t *)(void *)zeros;
+    check(ingr_write(3, ppl, nol, 0, 0, 0, NULL, 0, pixels, INGR_PIXELS(ppl, nol), NULL, 0, answer, sizeof answer) ==
+              INGR_OUTPUT_TOO_SHORT, "a file to be written that is long");
+    check(ingr_write(3, ppl, nol + 1, 0, 0, 0, NULL, 0, pixels, INGR_PIXELS(ppl, nol + 1), NULL, 0, answer,
+                     sizeof answer) == INGR_FILE_TOO_LONG, "a file to be written that is too long");
+    munmap(zeros, room);
+}
+
 int main(int argc, char **argv)
 {
     static uint8_t whole[ROOM];
@@ -203,6 +229,7 @@ int main(int argc, char **argv)
             turned(ppl, nol);
         }
     }
+    longest();
     check(ingr_header(NULL, 0, last(answer_edge, INGR_HEADER_ANSWER), INGR_HEADER_ANSWER) == INGR_FILE_TOO_SHORT,
           "no file");
     printf("c_guard: %lu comparisons, %lu wrong\n", compared, wrong);
