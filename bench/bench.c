@@ -29,7 +29,7 @@ static int quick;
 static char **words; /* of the rows that are wanted; all without any */
 static unsigned long compared, unequal;
 
-void *memory(size_t size)
+static void *memory(size_t size)
 {
     void *at = malloc(size);
     if (at == NULL) {
@@ -140,8 +140,8 @@ static void load_pixels(struct left *to)
 
 struct job {
     void (*run)(const struct side *, struct left *);
-    void (*limit)(struct left *);      /* NULL: there is none to speak of */
-    void (*instead)(struct left *);    /* NULL, or what takes the place of plain C */
+    void (*limit)(struct left *);   /* NULL: there is none to speak of */
+    void (*instead)(struct left *); /* NULL, or what takes the place of plain C */
 };
 
 /* Runs one side into buffers that hold OLD. */

@@ -17,9 +17,6 @@ struct side {
 
 extern const struct side OURS, PLAIN;
 
-/* Memory that is there; the program ends where it is not. */
-void *memory(size_t size);
-
 /* What buffers hold before a call that is compared, and how much more of each is looked at than is
  * written. */
 enum { OLD = 0xA5, SPARE = 64 };
