@@ -33,9 +33,9 @@
  *
  * What is proved: that each function, for all numbers and contents of buffers, returns and leaves
  * behind what is written here, reads and writes nothing outside the buffers and comes to an end.
- * What is trusted: the checker and the compiler; that each pointer and number describe memory
- * that the caller may lend, by the rules above; that this header declares what the library has.
- * The library is for x86-64 Linux.
+ * What is tested and not proved: the bound of the stack. What is trusted: the checker and the
+ * compiler; that each pointer and number describe memory that the caller may lend, by the rules
+ * above; that this header declares what the library has. The library is for x86-64 Linux.
  *
  * In docs/FORMAT.md a mark is called a status. It says of each number which definition gives it.
  */
