@@ -1,0 +1,26 @@
+/* Pictures to be written, and files to be read, good and damaged. */
+#ifndef SHEETS_H
+#define SHEETS_H
+
+#include <stddef.h>
+#include <stdint.h>
+
+/* A number below `limit` by chance, the same in every run. */
+uint32_t chance(uint32_t limit);
+
+/* How many runs a line has: a number of them, or one of these. */
+enum runs { NOISE = -1, SHORT_RUNS = 0 /* of 1 to 4 pixels */ };
+
+/* Paints lines of such runs, of pixels that the data type has. */
+void paint(uint16_t *picture, uint32_t type, size_t ppl, size_t nol, int runs);
+
+/* What is wrong with a file of runs or pairs. */
+enum damage { NONE, EACH_SHORT, EVERY_SECOND_SHORT, LOST_IN_THE_MIDDLE };
+
+void spoil(uint8_t *file, size_t size, enum damage damage);
+
+/* Makes a file of one pixel with an Environ-V table of 256 entries. */
+enum { ENVIRON_V_BYTES = 512 * 6 + 1 };
+void environ_v(uint8_t *file);
+
+#endif

@@ -1,0 +1,237 @@
+/*
+ * Calls every function of ingr.h on the files named, whole and cut off at every length, with
+ * buffers that are just long enough and end where memory that may be touched ends; then with longer
+ * ones at odd addresses, and with ones that are too short. Compared: that both give the same, that
+ * nothing past what is written changes, that a rejected call changes nothing, and that what was
+ * read is written, turned and turned back as it was. Exit status 0 where all is so.
+ */
+#define _GNU_SOURCE /* MAP_ANONYMOUS */
+#include <stdio.h>
+#include <stdlib.h>
+#include <string.h>
+#include <sys/mman.h>
+#include "ingr.h"
+
+enum { ROOM = 1 << 16, SPARE = 32, OLD = 0xA5 };
+
+static unsigned long compared, wrong;
+
+static void check(int right, const char *what)
+{
+    compared++;
+    if (!right && wrong++ < 10)
+        printf("c_guard: wrong: %s\n", what);
+}
+
+/* The end of ROOM bytes, after which nothing may be touched. */
+static uint8_t *new_edge(void)
+{
+    uint8_t *at = mmap(NULL, 2 * ROOM, PROT_READ | PROT_WRITE, MAP_PRIVATE | MAP_ANONYMOUS, -1, 0);
+    if (at == MAP_FAILED || mprotect(at + ROOM, ROOM, PROT_NONE) != 0) {
+        perror("c_guard: mmap");
+        exit(1);
+    }
+    return at + ROOM;
+}
+
+/* The last bytes before an edge, as if they had been used before. */
+static uint8_t *last(uint8_t *edge, size_t size)
+{
+    if (size > ROOM) {
+        fprintf(stderr, "c_guard: a file that is too large to be tried\n");
+        exit(1);
+    }
+    return memset(edge - size, OLD, size);
+}
+
+static int untouched(const uint8_t *from, size_t size)
+{
+    for (size_t i = 0; i < size; i++)
+        if (from[i] != OLD)
+            return 0;
+    return 1;
+}
+
+static uint8_t *file_edge, *pixel_edge, *mark_edge, *answer_edge, *out_edge;
+static uint8_t more_pixels[ROOM + SPARE], more_marks[ROOM + SPARE], more_answer[SPARE + INGR_HEADER_ANSWER];
+
+static uint32_t header(const uint8_t *file, size_t size, uint8_t *head)
+{
+    uint8_t *answer = last(answer_edge, INGR_HEADER_ANSWER);
+    const uint32_t result = ingr_header(file, size, answer, INGR_HEADER_ANSWER);
+    check(result == 0 || (result >= 10 && result <= 22), "a header's number");
+    check(result == 0 || untouched(answer, INGR_HEADER_ANSWER), "a rejected header call");
+    memset(more_answer, OLD, sizeof more_answer);
+    check(ingr_header(file, size, more_answer + 1, sizeof more_answer - 1) == result &&
+              memcmp(more_answer + 1, answer, INGR_HEADER_ANSWER) == 0 &&
+              untouched(more_answer + 1 + INGR_HEADER_ANSWER, SPARE - 1),
+          "a header with a longer answer");
+    memcpy(head, answer, INGR_HEADER_ANSWER);
+    answer = last(answer_edge, INGR_HEADER_ANSWER - 1);
+    check(ingr_header(file, size, answer, INGR_HEADER_ANSWER - 1) == INGR_ANSWER_TOO_SHORT &&
+              ingr_header(file, size, NULL, 0) == INGR_ANSWER_TOO_SHORT &&
+              untouched(answer, INGR_HEADER_ANSWER - 1),
+          "a header with a short answer");
+    return result;
+}
+
+static void colors(const uint8_t *file, size_t size, uint32_t rejected)
+{
+    for (uint32_t value = 0; value < 300; value += 37) {
+        uint8_t *answer = last(answer_edge, INGR_COLOR_ANSWER);
+        const uint32_t result = ingr_color(file, size, value, answer, INGR_COLOR_ANSWER);
+        check(rejected ? result == rejected : result == 0 || result == INGR_NO_COLOR, "a color's number");
+        check(result == 0 || untouched(answer, INGR_COLOR_ANSWER), "a rejected color call");
+    }
+    check(ingr_color(file, size, 0, NULL, 0) == INGR_ANSWER_TOO_SHORT, "a color with no answer");
+    check(rejected || ingr_color(file, size, 65536, last(answer_edge, INGR_COLOR_ANSWER),
+                                 INGR_COLOR_ANSWER) == INGR_NO_COLOR, "the color of 65,536");
+}
+
+/* Reads an accepted file, and leaves its pixels and marks before their edges. */
+static uint32_t raster(const uint8_t *file, size_t size, size_t bytes, size_t nol)
+{
+    const size_t answer_size = INGR_RASTER_ANSWER;
+    uint8_t *pixels = last(pixel_edge, bytes), *marks = last(mark_edge, nol);
+    uint8_t *answer = last(answer_edge, answer_size);
+    check(ingr_raster(file, size, pixels, bytes - 1, marks, nol, answer, answer_size) == INGR_PIXELS_TOO_SHORT &&
+              ingr_raster(file, size, NULL, 0, NULL, 0, answer, answer_size) == INGR_PIXELS_TOO_SHORT &&
+              ingr_raster(file, size, pixels, bytes, marks, nol - 1, answer, answer_size) == INGR_MARKS_TOO_SHORT &&
+              ingr_raster(file, size, pixels, bytes, marks, nol, answer, answer_size - 1) == INGR_ANSWER_TOO_SHORT &&
+              untouched(pixels, bytes) && untouched(marks, nol) && untouched(answer, answer_size),
+          "a raster with short buffers");
+    memset(more_pixels, OLD, sizeof more_pixels);
+    memset(more_marks, OLD, sizeof more_marks);
+    memset(more_answer, OLD, sizeof more_answer);
+    const uint32_t result = ingr_raster(file, size, more_pixels + 1, bytes + 8, more_marks + 1, nol + 8,
+                                        more_answer + 1, answer_size + 8);
+    check(result <= 1, "an accepted raster");
+    check(untouched(more_pixels, 1) && untouched(more_pixels + 1 + bytes, SPARE - 1) &&
+              untouched(more_marks, 1) && untouched(more_marks + 1 + nol, SPARE - 1) &&
+              untouched(more_answer, 1) && untouched(more_answer + 1 + answer_size, SPARE - 1),
+          "what lies past a raster");
+    check(ingr_raster(file, size, pixels, bytes, marks, nol, answer, answer_size) == result &&
+              memcmp(pixels, more_pixels + 1, bytes) == 0 && memcmp(marks, more_marks + 1, nol) == 0 &&
+              memcmp(answer, more_answer + 1, answer_size) == 0,
+          "a raster in buffers that are just long enough");
+    uint32_t good = 0;
+    for (size_t k = 0; k < nol; k++) {
+        int blank = 1;
+        for (size_t i = 0; i < bytes / nol; i++)
+            blank = blank && pixels[k * (bytes / nol) + i] == 0;
+        check(marks[k] == INGR_MARK_GOOD || (marks[k] <= INGR_MARK_NOT_REACHED && blank), "a refused scanline");
+        good += marks[k] == INGR_MARK_GOOD;
+    }
+    check(INGR_NUMBER(answer, INGR_RASTER_GOOD) == good && (result == 0) == (good == nol), "the good scanlines");
+    check(INGR_NUMBER(answer, INGR_RASTER_END) <= size, "the end");
+    return result;
+}
+
+/* Writes the pixels before their edge and reads them back; with every scanline good, the numbers
+ * that the file's own header has are accepted. */
+static void written(uint32_t type, uint32_t ppl, uint32_t nol, uint32_t slo, uint32_t scn)
+{
+    const size_t count = INGR_PIXELS(ppl, nol), bytes = 2 * count, room = INGR_WRITE_ROOM(ppl, nol);
+    const uint16_t *pixels = (const uint16_t *)(void *)(pixel_edge - bytes);
+    uint8_t answer[INGR_WRITE_ANSWER], *out = last(out_edge, room);
+    check(ingr_write(type, ppl, nol, slo, scn, 0, NULL, 0, pixels, count, out, room, answer, sizeof answer) == 0,
+          "a raster that is written");
+    const size_t size = INGR_NUMBER(answer, INGR_WRITE_LENGTH);
+    check(size <= room && untouched(out + size, room - size), "what lies past a written file");
+    memcpy(file_edge - size, out, size);
+    out = last(out_edge, size);
+    check(ingr_write(type, ppl, nol, slo, scn, 0, NULL, 0, pixels, count, out, size - 1, answer, sizeof answer) ==
+                  INGR_OUTPUT_TOO_SHORT &&
+              ingr_write(type, ppl, nol, slo, scn, 0, NULL, 0, pixels, count - 1, out, size, answer, sizeof answer) ==
+                  INGR_PIXELS_TOO_SHORT &&
+              ingr_write(type, ppl, nol, slo, scn, 0, NULL, 0, pixels, count, out, size, NULL, 0) ==
+                  INGR_ANSWER_TOO_SHORT && untouched(out, size),
+          "a writing with short buffers");
+    check(ingr_write(type, ppl, nol, slo, scn, 0, NULL, 0, pixels, count, out, size, answer, sizeof answer) == 0 &&
+              memcmp(out, file_edge - size, size) == 0,
+          "an output that is just long enough");
+    check(ingr_raster(out, size, more_pixels, bytes, more_marks, nol, more_answer, sizeof more_answer) == 0 &&
+              memcmp(more_pixels, pixels, bytes) == 0,
+          "reading back");
+}
+
+static void turned(uint32_t ppl, uint32_t nol)
+{
+    const size_t count = INGR_PIXELS(ppl, nol), bytes = 2 * count;
+    const uint16_t *pixels = (const uint16_t *)(void *)(pixel_edge - bytes);
+    for (uint32_t slo = 0; slo < 8; slo++) {
+        uint16_t *upright = (uint16_t *)(void *)last(out_edge, bytes);
+        check(ingr_turn(slo, ppl, nol, pixels, count, upright, count - 1) == INGR_FILLED_TOO_SHORT &&
+                  ingr_turn(slo, ppl, nol, pixels, count - 1, upright, count) == INGR_PIXELS_TOO_SHORT &&
+                  untouched((uint8_t *)upright, bytes),
+              "a turning with short buffers");
+        check(ingr_turn(slo, ppl, nol, pixels, count, upright, count) == 0, "a turning");
+        uint16_t *again = (uint16_t *)(void *)last(file_edge, bytes);
+        check(ingr_turn_back(slo, ppl, nol, upright, count, again, count) == 0 &&
+                  memcmp(again, pixels, bytes) == 0,
+              "turning back");
+    }
+}
+
+/* 10, with memory that is only ever read and so takes no room: a file of 2,147,483,647 bytes and one
+ * of a byte more, and pixels of which as long a file would be written. */
+static void longest(void)
+{
+    const size_t most = 2147483647, words = (most - 1024) / 2;
+    const uint32_t ppl = 65535, nol = (uint32_t)(words / ppl);
+    uint8_t answer[INGR_HEADER_ANSWER];
+    const size_t room = INGR_PIXEL_BYTES(ppl, nol + 1); /* more than the file, by part of a line */
+    uint8_t *zeros = mmap(NULL, room, PROT_READ, MAP_PRIVATE | MAP_ANONYMOUS | MAP_NORESERVE, -1, 0);
+    if (zeros == MAP_FAILED) {
+        perror("c_guard: mmap");
+        exit(1);
+    }
+    check(ingr_header(zeros, most, answer, sizeof answer) == INGR_BAD_HTC, "the longest file");
+    check(ingr_header(zeros, most + 1, answer, sizeof answer) == INGR_FILE_TOO_LONG &&
+              ingr_color(zeros, most + 1, 0, answer, sizeof answer) == INGR_FILE_TOO_LONG &&
+              ingr_raster(zeros, most + 1, NULL, 0, NULL, 0, answer, sizeof answer) == INGR_FILE_TOO_LONG,
+          "a file that is too long");
+    const uint16_t *pixels = (const uint16_t *)(void *)zeros;
+    check(ingr_write(3, ppl, nol, 0, 0, 0, NULL, 0, pixels, INGR_PIXELS(ppl, nol), NULL, 0, answer, sizeof answer) ==
+              INGR_OUTPUT_TOO_SHORT, "a file to be written that is long");
+    check(ingr_write(3, ppl, nol + 1, 0, 0, 0, NULL, 0, pixels, INGR_PIXELS(ppl, nol + 1), NULL, 0, answer,
+                     sizeof answer) == INGR_FILE_TOO_LONG, "a file to be written that is too long");
+    munmap(zeros, room);
+}
+
+int main(int argc, char **argv)
+{
+    static uint8_t whole[ROOM];
+    file_edge = new_edge();
+    pixel_edge = new_edge();
+    mark_edge = new_edge();
+    answer_edge = new_edge();
+    out_edge = new_edge();
+    for (int i = 1; i < argc; i++) {
+        FILE *stream = fopen(argv[i], "rb");
+        const size_t full = stream == NULL ? 0 : fread(whole, 1, ROOM, stream);
+        if (full == 0 || fclose(stream) != 0) {
+            fprintf(stderr, "c_guard: cannot be read: %s\n", argv[i]);
+            return 1;
+        }
+        for (size_t size = 0; size <= full; size++) {
+            uint8_t head[INGR_HEADER_ANSWER], *file = memcpy(file_edge - size, whole, size);
+            const uint32_t rejected = header(file, size, head);
+            colors(file, size, rejected);
+            if (rejected != 0)
+                continue;
+            const uint32_t ppl = INGR_NUMBER(head, INGR_HEADER_PPL), nol = INGR_NUMBER(head, INGR_HEADER_NOL);
+            raster(file, size, INGR_PIXEL_BYTES(ppl, nol), nol);
+            if (size < full)
+                continue;
+            written(INGR_NUMBER(head, INGR_HEADER_TYPE), ppl, nol, INGR_NUMBER(head, INGR_HEADER_SLO),
+                    INGR_NUMBER(head, INGR_HEADER_SCN));
+            turned(ppl, nol);
+        }
+    }
+    longest();
+    check(ingr_header(NULL, 0, last(answer_edge, INGR_HEADER_ANSWER), INGR_HEADER_ANSWER) == INGR_FILE_TOO_SHORT,
+          "no file");
+    printf("c_guard: %lu comparisons, %lu wrong\n", compared, wrong);
+    return wrong == 0 && compared > 10000 ? 0 : 1;
+}
