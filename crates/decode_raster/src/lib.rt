@@ -1,24 +1,22 @@
 // The reading of a whole raster into lent buffers.
 //
 // A rejected call changes nothing. Otherwise every row is stored in its own place, every scanline has its status, the
-// paper's mark, and what lies past the last row or status is left as it was. `bytes` reads into two bytes for each pixel.
-mod bytes;
-
+// paper's mark, and what lies past the last row or status is left as it was.
 ghost use mathlib.Core.Path.{_≡_};
 ghost use Prim.Native.Nat.{_≤_, _<_};
 ghost use lib.ListN.{length};
 ghost use Rattle.limits.specs.Limits.{mostLines};
-ghost use Rattle.layout.specs.Chain.{sheetOf, rasterOf, oneIfGood};
-ghost use Rattle.layout.specs.Reading.{rasterRejection, rasterReading, pixelsAfter, marksAfter, answerOf};
+ghost use Rattle.layout.specs.Chain.{rasterOf};
+ghost use Rattle.layout.specs.Reading.{rasterRejection, rasterReading, pixelsAfter, marksAfter};
 ghost use Rattle.decode_raster.specs.Answer.{rasterNumbers};
 ghost use Rattle.decode_raster.specs.laws.Answer.{asPixels, Fits, ChainAt, Stepped};
 ghost use Rattle.decode_raster.specs.laws.Lines.{Done};
-pub use bytes::read_raster_bytes;
 use decode_scanline::read_scanline;
-use fields::data_start;
-use fields::fields_of;
 use header::rejection_to_22;
 use layout::RasterLayout;
+use layout::answer_of;
+use layout::one_if_good;
+use layout::sheet_layout;
 use slices::fill;
 
 // 0 where every scanline is good and 1 where not, or the number of the rejection; how many scanlines are good; and the
@@ -81,26 +79,6 @@ pub fn raster_rejection(file: &[u8], pixels: usize, marks: usize) -> u16
     0
 }
 
-// The raster of a whole file, by its header.
-fn sheet_layout(file: &[u8]) -> RasterLayout
-    ensures { λ r. ⌜ rasterOf r (now (file .entry)) ≡ sheetOf (now (file .entry)) ⌝ }
-{
-    let h = fields_of(file);
-    RasterLayout {
-        start: data_start(file),
-        scn: h.scn,
-        dtc: h.dtc,
-        ppl: h.ppl,
-        nol: h.nol,
-    }
-}
-
-fn answer_of(good: u32, nol: u32) -> u32
-    ensures { λ r. ⌜ r ≡ answerOf good nol ⌝ }
-{
-    if good == nol { 0 } else { 1 }
-}
-
 // Reads the scanlines one after the other, each into its own part of the pixels.
 fn read_lines(bytes: &[u8], l: RasterLayout, pixels: &mut [u16], marks: &mut [u8]) -> Chain
     requires { ⌜ Fits (rasterOf l (now bytes)) (l .ppl) (length (now pixels)) (length (now marks)) ⌝ }
@@ -152,10 +130,4 @@ fn read_line(bytes: &[u8], l: RasterLayout, chain: Chain, k: usize, row: &mut [u
         good: chain.good + one_if_good(line.status),
         status: line.status,
     }
-}
-
-fn one_if_good(status: u8) -> u32
-    ensures { λ r. ⌜ r ≡ oneIfGood status ⌝ }
-{
-    if status == 0 { 1 } else { 0 }
 }

@@ -10,11 +10,11 @@ use Rattle.layout.specs.laws.Chain.{start-within, good-most}
 use Rattle.layout.specs.laws.Line.{length-row}
 use Rattle.decode_scanline.specs.Answer.{IsScan}
 use Rattle.decode_scanline.specs.laws.Body.{zero-bytes}
 use Rattle.decode_raster.specs.laws.Answer.{asBytes}
 use Rattle.decode_raster.specs.laws.Steps.{next-within, one-most, step-lost, step-on, bytes-full}
 use borrow.Author.Needs.{needs}
-use Rattle.decode_raster.proofs.bytes.read_line.Statement.{statement}
-use Rattle.decode_raster.proofs.bytes.read_line.Tie as tie
+use Rattle.decode_raster_bytes.proofs.read_line.Statement.{statement}
+use Rattle.decode_raster_bytes.proofs.read_line.Tie as tie
 
 -- Where the chain has come to, a scanline starts within the bytes.
 at-within : (c : tie.Else1) → c .before .before .before .args .chain .at ≤ length (c .before .before .before .args .bytes .now)

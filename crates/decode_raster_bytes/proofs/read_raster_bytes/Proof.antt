@@ -2,10 +2,10 @@ use Prim.Native.Nat.{ℕ, _/_}
 use mathlib.Core.Path.{_≡_, _∙_, ap}
 use lib.ListN.{length}
 use Rattle.layout.specs.Reading.{rasterRejection}
 use Rattle.decode_raster.specs.laws.Whole.{rejected-bytes, has-room-bytes, read-whole-bytes}
 use borrow.Author.Needs.{needs}
-use Rattle.decode_raster.proofs.bytes.read_raster_bytes.Statement.{statement}
-use Rattle.decode_raster.proofs.bytes.read_raster_bytes.Tie as tie
+use Rattle.decode_raster_bytes.proofs.read_raster_bytes.Statement.{statement}
+use Rattle.decode_raster_bytes.proofs.read_raster_bytes.Tie as tie
 
 number : (c : tie.After-raster-rejection)
     → let a = c .before .before .before .before .before .args in c .raster-rejection .result ≡ rasterRejection (a .file .now) (length (a .pixels .now) / 2) (length (a .marks .now))

@@ -6,10 +6,10 @@ use lib.ListN.{length, set}
 use borrow.Rule.Slice.PartMut.{midOf, putMid}
 use Rattle.units.specs.Counts.{wordBytes}
 use Rattle.layout.specs.Chain.{rasterOf}
 use Rattle.decode_raster.specs.laws.Answer.{asBytes}
 use Rattle.decode_raster.specs.laws.Lines.{LinesAt, lines-first, row-fits, lent-length, lines-next, lines-done}
-use Rattle.decode_raster.proofs.bytes.read_lines.Statement.{statement}
-use Rattle.decode_raster.proofs.bytes.read_lines.Tie as tie
+use Rattle.decode_raster_bytes.proofs.read_lines.Statement.{statement}
+use Rattle.decode_raster_bytes.proofs.read_lines.Tie as tie
 
 abbrev Inv-loop : tie.InvT-loop
 Inv-loop bytes l pixels₀ marks₀ width n chain₀ k₀ pixels marks chain k =

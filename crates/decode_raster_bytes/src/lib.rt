@@ -1,4 +1,6 @@
 // The reading of a whole raster into bytes, two for each pixel, low byte first.
+//
+// It goes along the same chain as the reading into pixels of 16 bits, with the same checks: only the rows are stored another way.
 ghost use mathlib.Core.Path.{_≡_};
 ghost use Prim.Native.Nat.{_≤_, _<_};
 ghost use lib.ListN.{length};
@@ -6,17 +8,17 @@ ghost use Rattle.units.specs.Counts.{wordBytes};
 ghost use Rattle.limits.specs.Limits.{mostLines};
 ghost use Rattle.layout.specs.Chain.{rasterOf};
 ghost use Rattle.layout.specs.PixelBytes.{bytesReading, pixelBytesAfter, byteMarksAfter};
 ghost use Rattle.decode_raster.specs.Answer.{rasterNumbers};
 ghost use Rattle.decode_raster.specs.laws.Answer.{asBytes, Fits, ChainAt, Stepped};
 ghost use Rattle.decode_raster.specs.laws.Lines.{Done};
-use crate::Chain;
-use crate::RasterAnswer;
-use crate::answer_of;
-use crate::one_if_good;
-use crate::raster_rejection;
-use crate::sheet_layout;
+use decode_raster::Chain;
+use decode_raster::RasterAnswer;
+use decode_raster::raster_rejection;
 use decode_scanline::read_scanline_bytes;
 use layout::RasterLayout;
+use layout::answer_of;
+use layout::one_if_good;
+use layout::sheet_layout;
 use slices::clear;
 use units::Bytes;
 use units::Words;

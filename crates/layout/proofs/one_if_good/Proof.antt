@@ -1,6 +1,6 @@
 use borrow.Author.Tests.{eq-eqb, ne-eqb}
-use Rattle.decode_raster.proofs.one_if_good.Statement.{statement}
-use Rattle.decode_raster.proofs.one_if_good.Tie as tie
+use Rattle.layout.proofs.one_if_good.Statement.{statement}
+use Rattle.layout.proofs.one_if_good.Tie as tie
 
 returns : tie.Need-returns
 returns c = simp (eq-eqb _ _ (c .if1 .taken))

@@ -1,6 +1,6 @@
 use borrow.Author.Needs.{needs}
-use Rattle.decode_raster.proofs.sheet_layout.Statement.{statement}
-use Rattle.decode_raster.proofs.sheet_layout.Tie as tie
+use Rattle.layout.proofs.sheet_layout.Statement.{statement}
+use Rattle.layout.proofs.sheet_layout.Tie as tie
 
 returns : tie.Need-returns
 returns c =
