@@ -15,6 +15,7 @@ pub use little_endian::u16_at;
 pub use little_endian::u32_at;
 pub use word_slice::load_words;
 pub use word_slice::put_byte;
+pub use word_slice::put_long;
 pub use word_slice::put_word;
 pub use word_slice::store_words;
 pub use word_slice::word_count;

@@ -1,13 +1,15 @@
--- Words as bytes: laws of `wordsToBytes`, and of the stores that put a word where it belongs.
-use Prim.Native.Nat.{ℕ, suc, _+_, _*_, _%_, _/_, _≤_, _<_}
-use mathlib.Core.Path.{_≡_, refl, ap}
+-- Words as bytes: laws of `wordsToBytes`, and of the stores that put a word, or a number of 32 bits, where it belongs.
+use Prim.Native.Nat.{ℕ, suc, _+_, _*_, _%_, _/_, _^_, _≤_, _<_}
+use mathlib.Core.Path.{_≡_, refl, sym, _∙_, ap}
 use mathlib.Core.List.{List, [], _∷_, _++_}
 use native.Mathlib.Numerals.{add-one, add-two}
+use native.Mathlib.Nat.{div-div-eq-div-mul}
 use native.Mathlib.Omega.{arith}
 use lib.ListN.{length, getD, drop, set, drop-of-length-le}
 use lib.Seq.{sets, drop-cons, length-sets}
-use Rattle.units.specs.Words.{wordsToBytes}
-use Rattle.units.specs.laws.Over.{sets-past}
+use Rattle.units.specs.LittleEndian.{u16Bytes, u32Bytes}
+use Rattle.units.specs.Words.{twoBytes, wordsToBytes}
+use Rattle.units.specs.laws.Over.{sets-past, sets-append}
 
 pub length-bytes : (ws : List ℕ) → length (wordsToBytes ws) ≡ 2 * length ws
 unfolding wordsToBytes
@@ -46,3 +48,21 @@ sets-last row out i h g =
     let v = getD row i 0 % 256 ∷ (getD row i 0 / 256 ∷ []) in
     rw (drop-cons row i 0 h, sets-word out (2 * i) (getD row i 0) (drop (suc i) row))
     (sets-past (sets out (2 * i) v) (2 * i + 2) (wordsToBytes (drop (suc i) row)) (omega (arith, length-sets out (2 * i) v)))
+
+-- the two bytes of a number of 16 bits, and of the low half of one of 32
+pub high-byte : {v : ℕ} → v < 65536 → v / 256 % 256 ≡ v / 256
+high-byte {v} h = omega arith
+
+low-half : (v : ℕ) → twoBytes (v % 65536) ≡ u16Bytes v
+low-half v =
+    let e : v % 65536 % 256 ≡ v % 256 = omega arith in
+    let f : v % 65536 / 256 ≡ v / 256 % 256 = omega (arith, div-div-eq-div-mul v 256 256) in
+    rw (e, f)
+
+high-half : {v : ℕ} → v < 2 ^ 32 → twoBytes (v / 65536) ≡ u16Bytes (v / 65536)
+high-half {v} h = rw (high-byte {v = v / 65536} (omega arith))
+
+pub long-bytes : {v : ℕ} → v < 2 ^ 32 → (out : List ℕ) (at : ℕ)
+    → sets (sets out at (twoBytes (v % 65536))) (at + 2) (twoBytes (v / 65536)) ≡ sets out at (u32Bytes v)
+long-bytes {v} h out at =
+    (λ k. sets (sets out at (low-half v k)) (at + 2) (high-half h k)) ∙ sym (sets-append out at (u16Bytes v) (u16Bytes (v / 65536)))
