@@ -2,7 +2,7 @@
 ghost use mathlib.Core.Path.{_≡_};
 ghost use Rattle.units.specs.Over.{over};
 ghost use Rattle.answers.specs.Answer.{numberBytes};
-use units::put_word;
+use units::put_long;
 
 // Stores numbers from the start of a buffer on, four bytes each, low byte first, as far as it goes.
 pub fn store_numbers(numbers: &[u32], out: &mut [u8])
@@ -10,12 +10,7 @@ pub fn store_numbers(numbers: &[u32], out: &mut [u8])
 {
     let mut i = 0;
     while i < numbers.len() {
-        let at = 4 * i;
-        if at < out.len() {
-            let n = numbers[i];
-            put_word(out, at, (n % 65536) as u16);
-            put_word(out, at + 2, (n / 65536) as u16);
-        }
+        put_long(out, 4 * i, numbers[i]);
         i += 1;
     }
 }
