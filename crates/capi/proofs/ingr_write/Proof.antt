@@ -1,0 +1,79 @@
+use Prim.Native.Nat.{_%_}
+use mathlib.Core.Path.{sym, _∙_, ap}
+use mathlib.Core.List.{[], _∷_}
+use native.Mathlib.Omega.{arith}
+use lib.ListN.{length}
+use Rattle.units.specs.Over.{over}
+use Rattle.encode_header.specs.Picture.{Picture}
+use Rattle.encode_raster.specs.Writing.{WriteNumbers, outAfter}
+use Rattle.encode_raster.specs.Answer.{picture}
+use Rattle.encode_raster.specs.laws.Call.{number-from, size-most}
+use Rattle.answers.specs.Answer.{numberBytes}
+use Rattle.answers.specs.laws.Call.{too-short, rejected, stored, kept-if-short, changed-if-long}
+use Rattle.capi.specs.Calls.{writeSize, cWrite}
+use borrow.Author.Needs.{needs}
+use Rattle.capi.proofs.ingr_write.Statement.{statement}
+use Rattle.capi.proofs.ingr_write.Tie as tie
+
+-- the picture of the call
+abbrev given : tie.Start → Picture
+given s =
+    let a = s .args in
+    picture (a .dtc) (a .ppl) (a .nol) (a .slo) (a .scn) (a .drs % 65536) (a .table .now) (a .pixels .now)
+
+returns : tie.Need-returns
+returns c =
+    let s = c .before .before .before .before .before in
+    let a = s .args in
+    let t = too-short writeSize (cWrite (given s) (length (a .out .now))) (a .answer .now) (c .if1 .taken) in
+    (t .0, (t .1, kept-if-short writeSize (a .answer .now) (a .out .now) (outAfter (given s) (a .out .now)) (c .if1 .taken)))
+
+returns-2 : tie.Need-returns-2
+returns-2 c =
+    let w = c .before .before .before .before .before in
+    let e = w .before .before in
+    let s = e .before .before .before .before .before in
+    let a = s .args in
+    let x = w .write-raster .ensures in
+    let t =
+    rejected writeSize (cWrite (given s) (length (a .out .now))) (a .answer .now) (e .if1 .left) (ap (λ (x : WriteNumbers). x .number) (x .0))
+    (number-from (given s) (length (a .out .now)) (w .write-raster .result) (x .0) (c .before .if2 .taken)) in
+    (t .0, (t .1, changed-if-long writeSize (a .answer .now) (a .out .now) (outAfter (given s) (a .out .now)) (e .if1 .left) (x .1)))
+
+cast-t16 : tie.Need-cast-t16
+cast-t16 c =
+    let w = c .before .before .before .before .before in
+    let s = w .before .before .before .before .before .before .before in
+    omega (arith, size-most (given s) (length (s .args .out .now)) (w .write-raster .result) (w .write-raster .ensures .0) (c .before .if2 .left))
+
+returns-3 : tie.Need-returns-3
+returns-3 c =
+    let p = c .before .before in
+    let l = p .before .before .before .before in
+    let w = l .before .before .before .before in
+    let e = w .before .before in
+    let s = e .before .before .before .before .before in
+    let a = s .args in
+    let x = w .write-raster .ensures in
+    let t =
+    stored writeSize (cWrite (given s) (length (a .out .now))) (a .answer .now) (e .if1 .left)
+    (sym (l .if2 .left) ∙ ap (λ (x : WriteNumbers). x .number) (x .0)) (omega arith)
+    (p .store-numbers .ensures ∙ ap (λ (x : WriteNumbers). over (numberBytes (x .size ∷ [])) (a .answer .now)) (x .0)) in
+    (t .0, (t .1, changed-if-long writeSize (a .answer .now) (a .out .now) (outAfter (given s) (a .out .now)) (e .if1 .left) (x .1)))
+
+pub ingr-write-spec : {M : Type 1} → statement M
+ingr-write-spec =
+    tie.close
+    (tie.spec
+    returns
+    (λ c. search needs)
+    (λ c κs. search needs)
+    (λ c. search needs)
+    (λ c. search needs)
+    returns-2
+    cast-t16
+    (λ c. search needs)
+    (λ c κs. search needs)
+    (λ c. search needs)
+    (λ c. search needs)
+    returns-3)
