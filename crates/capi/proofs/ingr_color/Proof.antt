@@ -14,7 +14,7 @@ use Rattle.capi.proofs.ingr_color.Tie as tie
 returns : tie.Need-returns
 returns c =
     let a = c .before .before .before .args in
-    too-short colorSize (cColor (a .file .now) (a .value)) (a .answer .now) (c .if1 .taken)
+    too-short colorSize (cColor (a .file .now) (a .value)) (a .answer .now) (omega (arith, c .if1 .taken))
 
 -- the number is the reading's
 number : (c : tie.After-color-number) →
@@ -28,7 +28,7 @@ returns-2 c =
     let e = k .before .before in
     let a = e .before .before .before .args in
     let n = number k in
-    rejected colorSize (cColor (a .file .now) (a .value)) (a .answer .now) (e .if1 .left) n
+    rejected colorSize (cColor (a .file .now) (a .value)) (a .answer .now) (omega (arith, e .if1 .left)) n
     (rw n (color-from (a .file .now) (a .value) (λ z. c .if2 .taken (n ∙ z))))
 
 returns-3 : tie.Need-returns-3
@@ -43,7 +43,7 @@ returns-3 c =
     let red = q .color-parts .ensures .0 ∙ ap (λ (x : ColorNumbers). x .red) x in
     let green = q .color-parts .ensures .1 .0 ∙ ap (λ (x : ColorNumbers). x .green) x in
     let blue = q .color-parts .ensures .1 .1 ∙ ap (λ (x : ColorNumbers). x .blue) x in
-    stored colorSize (cColor (a .file .now) (a .value)) (a .answer .now) (e .if1 .left) (sym (l .if2 .left) ∙ number (l .before)) (omega arith)
+    stored colorSize (cColor (a .file .now) (a .value)) (a .answer .now) (omega (arith, e .if1 .left)) (sym (l .if2 .left) ∙ number (l .before)) (omega arith)
     (p .store-color .ensures ∙ (λ k. over (numberBytes (red k ∷ (green k ∷ (blue k ∷ [])))) (a .answer .now)))
 
 pub ingr-color-spec : {M : Type 1} → statement M

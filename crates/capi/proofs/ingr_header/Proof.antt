@@ -14,7 +14,7 @@ use Rattle.capi.proofs.ingr_header.Tie as tie
 returns : tie.Need-returns
 returns c =
     let a = c .before .before .before .args in
-    too-short headerSize (cHeader (a .file .now)) (a .answer .now) (c .if1 .taken)
+    too-short headerSize (cHeader (a .file .now)) (a .answer .now) (omega (arith, c .if1 .taken))
 
 returns-2 : tie.Need-returns-2
 returns-2 c =
@@ -24,7 +24,7 @@ returns-2 c =
     let a = e .before .before .before .args in
     let s : rejectedNumbers (r .read .given .0 .0) ≡ headerReading (a .file .now) =
     ap headerNumbers (sym (r .read .given .1)) ∙ h .read-header .ensures in
-    rejected headerSize (cHeader (a .file .now)) (a .answer .now) (e .if1 .left) (ap (λ (x : HeaderNumbers). x .number) s) (header-from (a .file .now) s)
+    rejected headerSize (cHeader (a .file .now)) (a .answer .now) (omega (arith, e .if1 .left)) (ap (λ (x : HeaderNumbers). x .number) s) (header-from (a .file .now) s)
 
 returns-3 : tie.Need-returns-3
 returns-3 c =
@@ -35,7 +35,7 @@ returns-3 c =
     let a = e .before .before .before .args in
     let s : headerNumbers (Accepted (r .read2 .given .0 .0)) ≡ headerReading (a .file .now) =
     ap headerNumbers (sym (r .read2 .given .1)) ∙ h .read-header .ensures in
-    stored headerSize (cHeader (a .file .now)) (a .answer .now) (e .if1 .left) (ap (λ (x : HeaderNumbers). x .number) s) (omega arith)
+    stored headerSize (cHeader (a .file .now)) (a .answer .now) (omega (arith, e .if1 .left)) (ap (λ (x : HeaderNumbers). x .number) s) (omega arith)
     (p .store-header .ensures ∙ ap (λ (x : HeaderNumbers). over (numberBytes (headerCall x .numbers)) (a .answer .now)) s)
 
 pub ingr-header-spec : {M : Type 1} → statement M

@@ -1,16 +1,13 @@
-use Prim.Native.Nat.{_%_}
-use mathlib.Core.Path.{sym, _∙_, ap}
-use mathlib.Core.List.{[], _∷_}
+use Prim.Native.Nat.{_%_, _<_}
 use native.Mathlib.Omega.{arith}
 use lib.ListN.{length}
-use Rattle.units.specs.Over.{over}
 use Rattle.encode_header.specs.Picture.{Picture}
-use Rattle.encode_raster.specs.Writing.{WriteNumbers, outAfter}
+use Rattle.encode_raster.specs.Writing.{outAfter}
 use Rattle.encode_raster.specs.Answer.{picture}
-use Rattle.encode_raster.specs.laws.Call.{number-from, size-most}
-use Rattle.answers.specs.Answer.{numberBytes}
-use Rattle.answers.specs.laws.Call.{too-short, rejected, stored, kept-if-short, changed-if-long}
+use Rattle.encode_raster.specs.laws.Call.{size-most}
+use Rattle.answers.specs.laws.Call.{too-short, kept-if-short}
 use Rattle.capi.specs.Calls.{writeSize, cWrite}
+use Rattle.capi.specs.laws.Writing.{write-rejected, write-done}
 use borrow.Author.Needs.{needs}
 use Rattle.capi.proofs.ingr_write.Statement.{statement}
 use Rattle.capi.proofs.ingr_write.Tie as tie
@@ -25,20 +22,18 @@ returns : tie.Need-returns
 returns c =
     let s = c .before .before .before .before .before in
     let a = s .args in
-    let t = too-short writeSize (cWrite (given s) (length (a .out .now))) (a .answer .now) (c .if1 .taken) in
-    (t .0, (t .1, kept-if-short writeSize (a .answer .now) (a .out .now) (outAfter (given s) (a .out .now)) (c .if1 .taken)))
+    let h : length (a .answer .now) < writeSize = omega (arith, c .if1 .taken) in
+    let t = too-short writeSize (cWrite (given s) (length (a .out .now))) (a .answer .now) h in
+    (t .0, (t .1, kept-if-short writeSize (a .answer .now) (a .out .now) (outAfter (given s) (a .out .now)) h))
 
 returns-2 : tie.Need-returns-2
 returns-2 c =
     let w = c .before .before .before .before .before in
     let e = w .before .before in
     let s = e .before .before .before .before .before in
-    let a = s .args in
     let x = w .write-raster .ensures in
-    let t =
-    rejected writeSize (cWrite (given s) (length (a .out .now))) (a .answer .now) (e .if1 .left) (ap (λ (x : WriteNumbers). x .number) (x .0))
-    (number-from (given s) (length (a .out .now)) (w .write-raster .result) (x .0) (c .before .if2 .taken)) in
-    (t .0, (t .1, changed-if-long writeSize (a .answer .now) (a .out .now) (outAfter (given s) (a .out .now)) (e .if1 .left) (x .1)))
+    write-rejected (given s) (s .args .out .now) (s .args .answer .now) (w .write-raster .result) (x .0) (x .1) (omega (arith, e .if1 .left))
+    (c .before .if2 .taken)
 
 cast-t16 : tie.Need-cast-t16
 cast-t16 c =
@@ -53,13 +48,9 @@ returns-3 c =
     let w = l .before .before .before .before in
     let e = w .before .before in
     let s = e .before .before .before .before .before in
-    let a = s .args in
     let x = w .write-raster .ensures in
-    let t =
-    stored writeSize (cWrite (given s) (length (a .out .now))) (a .answer .now) (e .if1 .left)
-    (sym (l .if2 .left) ∙ ap (λ (x : WriteNumbers). x .number) (x .0)) (omega arith)
-    (p .store-numbers .ensures ∙ ap (λ (x : WriteNumbers). over (numberBytes (x .size ∷ [])) (a .answer .now)) (x .0)) in
-    (t .0, (t .1, changed-if-long writeSize (a .answer .now) (a .out .now) (outAfter (given s) (a .out .now)) (e .if1 .left) (x .1)))
+    write-done (given s) (s .args .out .now) (s .args .answer .now) (w .write-raster .result) (x .0) (x .1) (omega (arith, e .if1 .left))
+    (l .if2 .left) (p .store-numbers .ensures)
 
 pub ingr-write-spec : {M : Type 1} → statement M
 ingr-write-spec =
