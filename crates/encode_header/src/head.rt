@@ -1,10 +1,8 @@
 // The header of a file: two blocks, or three with a color table.
 ghost use mathlib.Core.Path.{_≡_};
-ghost use Prim.Native.Nat.{_-_, _<_};
+ghost use Prim.Native.Nat.{_-_};
 ghost use lib.ListN.{length};
-ghost use lib.Seq.{sets};
 ghost use Rattle.units.specs.Counts.{wordsOfBlocks};
-ghost use Rattle.units.specs.LittleEndian.{u32Bytes};
 ghost use Rattle.encode_header.specs.Header.{ctvOf, blocksOf, headerBytes, headerSize};
 ghost use Rattle.encode_header.specs.Job.{pictureOf, headerOver};
 ghost use Rattle.encode_header.specs.laws.Header.{withStart, withSizes, withFloats, withFields};
@@ -16,6 +14,7 @@ use units::Bytes;
 use units::blocks_to_bytes;
 use units::blocks_to_words;
 use units::put_byte;
+use units::put_long;
 use units::put_word;
 
 // Puts the header's bytes at the start of the output where they fit, and answers how many there are.
@@ -108,13 +107,4 @@ fn put_floats(out: &mut [u8])
     put_word(out, 142, 0x3ff0);
     put_word(out, 182, 0x3ff0);
     put_word(out, 526, 0x3ff0);
-}
-
-// A number of 32 bits, low word first.
-fn put_long(out: &mut [u8], at: usize, v: u32)
-    requires { ⌜ at < 768 ⌝ }
-    ensures { λ _. ⌜ now (out .exit) ≡ sets (now (out .entry)) at (u32Bytes v) ⌝ }
-{
-    put_word(out, at, (v % 65536) as u16);
-    put_word(out, at + 2, (v / 65536) as u16);
 }

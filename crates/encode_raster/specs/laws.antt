@@ -1,6 +1,7 @@
 pub mod Accepting
 pub mod Answer
 pub mod Bounds
+pub mod Call
 pub mod Limits
 pub mod Line
 pub mod Lines

@@ -16,6 +16,7 @@ pub use little_endian::u32_at;
 pub use word_slice::fill_words;
 pub use word_slice::load_words;
 pub use word_slice::put_byte;
+pub use word_slice::put_long;
 pub use word_slice::put_word;
 pub use word_slice::store_words;
 pub use word_slice::widen_words;

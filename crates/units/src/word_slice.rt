@@ -2,6 +2,7 @@
 ghost use mathlib.Core.Path.{_≡_};
 ghost use lib.ListN.{length, replicate, set};
 ghost use lib.Seq.{sets};
+ghost use Rattle.units.specs.LittleEndian.{u32Bytes};
 ghost use Rattle.units.specs.Over.{over};
 ghost use Rattle.units.specs.Words.{words, twoBytes, wordsToBytes, wordCount, wordStart};
 use crate::Bytes;
@@ -88,6 +89,16 @@ pub fn widen_words(from: &[u8], to: &mut [u8])
     }
     if n < from.len() {
         put_byte(to, 2 * n, from[n]);
+    }
+}
+
+// Stores the four bytes of a number of 32 bits, low word first, as far as the buffer goes.
+pub fn put_long(out: &mut [u8], at: usize, v: u32)
+    ensures { λ _. ⌜ now (out .exit) ≡ sets (now (out .entry)) at (u32Bytes v) ⌝ }
+{
+    if at < out.len() {
+        put_word(out, at, (v % 65536) as u16);
+        put_word(out, at + 2, (v / 65536) as u16);
     }
 }
 

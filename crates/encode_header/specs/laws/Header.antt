@@ -1,9 +1,8 @@
 -- The header as stores over zeros, and what stands in the output after them.
-use Prim.Native.Nat.{ℕ, _+_, _-_, _/_, _%_, _^_, _≤_, _<_}
+use Prim.Native.Nat.{ℕ, _-_, _≤_, _<_}
 use mathlib.Core.Bool.{Bool, true, false, cond}
 use mathlib.Core.List.{List, [], _∷_, _++_, append-assoc}
 use mathlib.Core.Path.{_≡_, refl, sym, ap, _∙_}
-use native.Mathlib.Nat.{div-div-eq-div-mul}
 use native.Mathlib.Omega.{arith}
 use lib.ListN.{length, take, drop, set, replicate-append-replicate}
 use lib.Seq.{sets, length-take-le}
@@ -13,32 +12,12 @@ use borrow.Rule.Slice.PartMut.{midOf, putMid}
 use Rattle.units.specs.Counts.{wordsOfBlocks}
 use Rattle.units.specs.LittleEndian.{u16Bytes, u32Bytes}
 use Rattle.units.specs.Over.{over, zeros}
-use Rattle.units.specs.Words.{twoBytes}
-use Rattle.units.specs.laws.Over.{sets-append}
 use Rattle.units.specs.laws.Parts.{tail-is, put-tail}
 use Rattle.encode_header.specs.declared.Job.{Job}
 use Rattle.encode_header.specs.Picture.{Picture}
 use Rattle.encode_header.specs.Header.{ctvOf, blocksOf, tableArea, headerBytes, headerSize}
 use Rattle.encode_header.specs.Job.{pictureOf, headerOver}
 use Rattle.encode_header.specs.laws.Positions.{length-header, area-put}
-
--- the two bytes of a number of 16 bits, and of the low half of one of 32
-pub high-byte : {v : ℕ} → v < 65536 → v / 256 % 256 ≡ v / 256
-high-byte {v} h = omega arith
-
-low-half : (v : ℕ) → twoBytes (v % 65536) ≡ u16Bytes v
-low-half v =
-    let e : v % 65536 % 256 ≡ v % 256 = omega arith in
-    let f : v % 65536 / 256 ≡ v / 256 % 256 = omega (arith, div-div-eq-div-mul v 256 256) in
-    rw (e, f)
-
-high-half : {v : ℕ} → v < 2 ^ 32 → twoBytes (v / 65536) ≡ u16Bytes (v / 65536)
-high-half {v} h = rw (high-byte {v = v / 65536} (omega arith))
-
-pub long-bytes : {v : ℕ} → v < 2 ^ 32 → (out : List ℕ) (at : ℕ)
-    → sets (sets out at (twoBytes (v % 65536))) (at + 2) (twoBytes (v / 65536)) ≡ sets out at (u32Bytes v)
-long-bytes {v} h out at =
-    (λ k. sets (sets out at (low-half v k)) (at + 2) (high-half h k)) ∙ sym (sets-append out at (u16Bytes v) (u16Bytes (v / 65536)))
 
 -- HTC, WTF, DTC, VER, CTV
 unfoldable pub withStart : Job → ℕ → ℕ → List ℕ → List ℕ

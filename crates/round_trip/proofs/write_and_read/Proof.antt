@@ -5,7 +5,8 @@ use Prim.Native.Nat.{_≤_}
 use mathlib.Core.Path.{_≡_, refl, sym, _∙_, ap}
 use borrow.Author.Needs.{needs}
 use Rattle.round_trip.specs.Call.{BothCalls}
-use Rattle.round_trip.specs.laws.Call.{number-is, number-from, size-fits, length-after, given-back}
+use Rattle.encode_raster.specs.laws.Call.{number-is, number-from, size-fits, length-after}
+use Rattle.round_trip.specs.laws.Call.{given-back}
 use Rattle.layout.specs.Reading.{RasterNumbers}
 use Rattle.encode_raster.specs.Answer.{picture}
 use Rattle.encode_header.specs.Picture.{Picture}
@@ -32,14 +33,14 @@ slice-reshare-prefix-read-raster c =
     let a = c .before .before .before .before .before .before .before .before .before .before .before .args in
     let w = c .before .before .before .before .write-raster in
     let l : length (w .last .1 .1 .1 .1 .1 .1 .1 .1 .0) ≡ length (a .out .now) = ap length (w .ensures .1) ∙ length-after (picture (a .dtc) (a .ppl) (a .nol) (a .slo) (a .scn) (a .drs) (a .table .now) (a .pixels .now)) (a .out .now) in
-    omega (arith, size-fits (picture (a .dtc) (a .ppl) (a .nol) (a .slo) (a .scn) (a .drs) (a .table .now) (a .pixels .now)) (a .out .now) (w .result) (w .ensures .0) (c .if1 .left), l)
+    omega (arith, size-fits (picture (a .dtc) (a .ppl) (a .nol) (a .slo) (a .scn) (a .drs) (a .table .now) (a .pixels .now)) (length (a .out .now)) (w .result) (w .ensures .0) (c .if1 .left), l)
 
 slice-aggregate-read-raster : tie.Need-slice-aggregate-read-raster
 slice-aggregate-read-raster c =
     let a = c .before .before .before .before .before .before .before .before .before .before .before .before .args in
     let w = c .before .before .before .before .before .write-raster in
     let l : length (w .last .1 .1 .1 .1 .1 .1 .1 .1 .0) ≡ length (a .out .now) = ap length (w .ensures .1) ∙ length-after (picture (a .dtc) (a .ppl) (a .nol) (a .slo) (a .scn) (a .drs) (a .table .now) (a .pixels .now)) (a .out .now) in
-    let s : w .result .size .0 ≤ length (w .last .1 .1 .1 .1 .1 .1 .1 .1 .0) = omega (arith, size-fits (picture (a .dtc) (a .ppl) (a .nol) (a .slo) (a .scn) (a .drs) (a .table .now) (a .pixels .now)) (a .out .now) (w .result) (w .ensures .0) (c .before .if1 .left), l) in
+    let s : w .result .size .0 ≤ length (w .last .1 .1 .1 .1 .1 .1 .1 .1 .0) = omega (arith, size-fits (picture (a .dtc) (a .ppl) (a .nol) (a .slo) (a .scn) (a .drs) (a .table .now) (a .pixels .now)) (length (a .out .now)) (w .result) (w .ensures .0) (c .before .if1 .left), l) in
     sym (length-take-le (w .result .size .0) (w .last .1 .1 .1 .1 .1 .1 .1 .1 .0) s)
 
 returns-2 : tie.Need-returns-2

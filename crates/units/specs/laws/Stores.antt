@@ -1,16 +1,18 @@
--- Words as bytes: laws of `wordsToBytes`, and of the stores that put a word where it belongs.
-use Prim.Native.Nat.{ℕ, suc, _+_, _*_, _%_, _/_, _≤_, _<_}
+-- Words as bytes: laws of `wordsToBytes`, and of the stores that put a word, or a number of 32 bits, where it belongs.
+use Prim.Native.Nat.{ℕ, suc, _+_, _*_, _%_, _/_, _^_, _≤_, _<_}
 use mathlib.Core.Path.{_≡_, refl, sym, _∙_, ap}
 use mathlib.Core.Bool.{Bool, true, false}
 use mathlib.Core.List.{List, [], _∷_, _++_}
 use native.Mathlib.Numerals.{add-one, add-two}
+use native.Mathlib.Nat.{div-div-eq-div-mul}
 use native.Mathlib.Omega.{arith}
 use lib.ListN.{length, getD, drop, set, replicate, drop-of-length-le, length-replicate, length-set, getD-replicate}
 use lib.Dec.{ltb}
 use lib.Seq.{sets, set-out, drop-cons, length-sets}
 use borrow.Author.Tests.{ltb-true, ltb-false}
+use Rattle.units.specs.LittleEndian.{u16Bytes, u32Bytes}
 use Rattle.units.specs.Words.{twoBytes, wordsToBytes}
-use Rattle.units.specs.laws.Over.{sets-past}
+use Rattle.units.specs.laws.Over.{sets-past, sets-append}
 
 pub length-bytes : (ws : List ℕ) → length (wordsToBytes ws) ≡ 2 * length ws
 unfolding wordsToBytes
@@ -85,3 +87,21 @@ module _ (bytes out : List ℕ) (i : ℕ) (h : i < length bytes) (small : getD b
   byte-last g =
       (rw (low, high) at (sets-last bytes out i h (omega arith)))
       ∙ set-out (set out (2 * i) (getD bytes i 0)) (suc (2 * i)) 0 (omega (arith, length-set out (2 * i) (getD bytes i 0)))
+
+-- the two bytes of a number of 16 bits, and of the low half of one of 32
+pub high-byte : {v : ℕ} → v < 65536 → v / 256 % 256 ≡ v / 256
+high-byte {v} h = omega arith
+
+low-half : (v : ℕ) → twoBytes (v % 65536) ≡ u16Bytes v
+low-half v =
+    let e : v % 65536 % 256 ≡ v % 256 = omega arith in
+    let f : v % 65536 / 256 ≡ v / 256 % 256 = omega (arith, div-div-eq-div-mul v 256 256) in
+    rw (e, f)
+
+high-half : {v : ℕ} → v < 2 ^ 32 → twoBytes (v / 65536) ≡ u16Bytes (v / 65536)
+high-half {v} h = rw (high-byte {v = v / 65536} (omega arith))
+
+pub long-bytes : {v : ℕ} → v < 2 ^ 32 → (out : List ℕ) (at : ℕ)
+    → sets (sets out at (twoBytes (v % 65536))) (at + 2) (twoBytes (v / 65536)) ≡ sets out at (u32Bytes v)
+long-bytes {v} h out at =
+    (λ k. sets (sets out at (low-half v k)) (at + 2) (high-half h k)) ∙ sym (sets-append out at (u16Bytes v) (u16Bytes (v / 65536)))

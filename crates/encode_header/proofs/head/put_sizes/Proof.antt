@@ -2,7 +2,8 @@ use Prim.Native.Nat.{_<_}
 use mathlib.Core.Path.{_∙_}
 use native.Mathlib.Omega.{arith}
 use borrow.Author.Needs.{needs}
-use Rattle.encode_header.specs.laws.Header.{high-byte, withSizes}
+use Rattle.units.specs.laws.Stores.{high-byte}
+use Rattle.encode_header.specs.laws.Header.{withSizes}
 use Rattle.encode_header.proofs.head.put_sizes.Statement.{statement}
 use Rattle.encode_header.proofs.head.put_sizes.Tie as tie
 

@@ -2,7 +2,8 @@ use Prim.Native.Nat.{_<_}
 use mathlib.Core.Path.{_∙_}
 use native.Mathlib.Omega.{arith}
 use borrow.Author.Needs.{needs}
-use Rattle.encode_header.specs.laws.Header.{high-byte, withStart}
+use Rattle.units.specs.laws.Stores.{high-byte}
+use Rattle.encode_header.specs.laws.Header.{withStart}
 use Rattle.encode_header.proofs.head.put_start.Statement.{statement}
 use Rattle.encode_header.proofs.head.put_start.Tie as tie
 

@@ -1,0 +1,3 @@
+pub mod Rejections
+pub mod Sizes
+pub mod Writing
