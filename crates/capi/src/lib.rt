@@ -11,15 +11,17 @@ ghost use Rattle.header.specs.Resolution.{resolutionNumbers};
 ghost use Rattle.header.specs.Reading.{headerNumbers};
 ghost use Rattle.header.specs.declared.reading.HeaderAnswer.the-variants.{Accepted};
 ghost use Rattle.color.specs.Color.{colorNumbers, color};
+ghost use Rattle.layout.specs.PixelBytes.{pixelBytesAfter, byteMarksAfter};
 ghost use Rattle.orient.specs.Turning.{turnRejection, uprightAfter, pixelsAfter};
 ghost use Rattle.encode_raster.specs.Writing.{outAfter};
 ghost use Rattle.encode_raster.specs.Answer.{picture};
 ghost use Rattle.answers.specs.Answer.{numberBytes, resultOf, answerAfter, unlessShort};
-ghost use Rattle.capi.specs.Calls.{headerSize, headerCall, cHeader, colorSize, colorCall, cColor, writeSize, cWrite};
+ghost use Rattle.capi.specs.Calls.{headerSize, headerCall, cHeader, rasterSize, cRaster, colorSize, colorCall, cColor, writeSize, cWrite};
 use answers::store_numbers;
 use color::ColorAnswer;
 use color::Rgb;
 use color::color_of;
+use decode_raster_bytes::read_raster_bytes;
 use encode_raster::write_raster;
 use header::Header;
 use header::HeaderAnswer;
@@ -30,6 +32,8 @@ use orient::turn_back;
 
 // The bytes of each call's numbers, and the rejection of a slice that is shorter.
 const HEADER_SIZE: usize = 40;
+
+const RASTER_SIZE: usize = 8;
 
 const COLOR_SIZE: usize = 12;
 
@@ -145,6 +149,31 @@ fn store_color(c: Rgb, answer: &mut [u8])
 {
     let numbers = [c.red as u32, c.green as u32, c.blue as u32];
     store_numbers(&numbers, answer);
+}
+
+// Reads the raster of a file: pixels as two bytes each, low byte first, row after row, and a status for each scanline.
+#[no_mangle]
+pub extern "C" fn ingr_raster(
+    file: &[u8],
+    pixels: &mut [u8],
+    marks: &mut [u8],
+    answer: &mut [u8],
+) -> u32
+    ensures { λ r. ⌜ r ≡ resultOf rasterSize (cRaster (now (file .entry)) (now (pixels .entry)) (now (marks .entry))) (now (answer .entry)) ⌝ }
+    ensures { λ r. ⌜ now (answer .exit) ≡ answerAfter rasterSize (cRaster (now (file .entry)) (now (pixels .entry)) (now (marks .entry))) (now (answer .entry)) ⌝ }
+    ensures { λ r. ⌜ now (pixels .exit) ≡ unlessShort rasterSize (now (answer .entry)) (now (pixels .entry)) (pixelBytesAfter (now (file .entry)) (now (pixels .entry)) (now (marks .entry))) ⌝ }
+    ensures { λ r. ⌜ now (marks .exit) ≡ unlessShort rasterSize (now (answer .entry)) (now (marks .entry)) (byteMarksAfter (now (file .entry)) (now (pixels .entry)) (now (marks .entry))) ⌝ }
+{
+    if answer.len() < RASTER_SIZE {
+        return TOO_SHORT;
+    }
+    let read = read_raster_bytes(file, pixels, marks);
+    if 1 < read.answer {
+        return read.answer;
+    }
+    let numbers = [read.good, read.end as u32];
+    store_numbers(&numbers, answer);
+    read.answer
 }
 
 // Turns a sheet of nol lines of ppl pixels into the upright picture.
