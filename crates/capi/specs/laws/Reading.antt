@@ -22,12 +22,12 @@ use Rattle.answers.specs.laws.Call.{too-short, rejected, stored, kept-if-short,
 use Rattle.capi.specs.Calls.{rasterSize, cRaster}
 
 -- a rejection is 10 or above
-rejection-from : (f : List ℕ) (pixels marks : ℕ) → (bytesRejection f pixels marks ≡ 0 → ⊥) → 10 ≤ bytesRejection f pixels marks
+pub rejection-from : (f : List ℕ) (pixels marks : ℕ) → (bytesRejection f pixels marks ≡ 0 → ⊥) → 10 ≤ bytesRejection f pixels marks
 unfolding bytesRejection
 rejection-from f pixels marks = first-from 10 (rulesTo22 f ++ byteBufferRules (sheetOf f .ppl) (sheetOf f .nol) pixels marks) tt
 
 -- what is read ends within the file, whose length fits 31 bits
-end-within : (f : List ℕ) (pixels marks : ℕ) → bytesRejection f pixels marks ≡ 0 → readNumbers (sheetOf f) .end < 2 ^ 32
+pub end-within : (f : List ℕ) (pixels marks : ℕ) → bytesRejection f pixels marks ≡ 0 → readNumbers (sheetOf f) .end < 2 ^ 32
 unfolding bytesRejection rejectionTo22
 end-within f pixels marks e =
     let a = accepted f (both-none (rulesTo22 f) (byteBufferRules (sheetOf f .ppl) (sheetOf f .nol) pixels marks) tt e .0) in

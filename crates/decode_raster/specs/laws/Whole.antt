@@ -92,7 +92,7 @@ module _ (f pixels marks : List ℕ) {n : ℕ} (number : n ≡ rasterRejection f
         (rw t (read-answer f l read c (d .chain) a answer), (rw t (d .pixels-is), rw t (d .marks-is)))
 
 -- Into bytes: as for as many pixels as there is room for.
-half-below : (n x : ℕ) → ltb n (wordBytes x) ≡ ltb (n / 2) x
+pub half-below : (n x : ℕ) → ltb n (wordBytes x) ≡ ltb (n / 2) x
 half-below n x = go (ltb n (wordBytes x)) refl
   where
     go : (b : Bool) → ltb n (wordBytes x) ≡ b → ltb n (wordBytes x) ≡ ltb (n / 2) x
@@ -105,7 +105,7 @@ bytes-rejection f pixels marks =
     ap (λ (t : Bool). first (rulesTo22 f ++ (rule 23 t ∷ (rule 24 (ltb marks (sheetOf f .nol)) ∷ []))))
     (half-below pixels (sheetOf f .nol * sheetOf f .ppl))
 
-rows-bytes : (n p : ℕ) → n * wordBytes p ≡ wordBytes (n * p)
+pub rows-bytes : (n p : ℕ) → n * wordBytes p ≡ wordBytes (n * p)
 rows-bytes zero p = rw (zero-mul (2 * p), zero-mul p)
 rows-bytes (suc n) p = omega (arith, suc-mul n (2 * p), suc-mul n p, rows-bytes n p)
 
