@@ -1,4 +1,4 @@
-//! Runs the cases of a mode on two threads and tells what came of them.
+//! Runs the cases of a mode and tells what came of them.
 
 use crate::run::{Program, Run};
 use std::collections::BTreeMap;
@@ -143,6 +143,87 @@ fn excerpt(bytes: &[u8]) -> String {
     format!("{}{dots}", cut.escape_ascii())
 }
 
+/// What came of the cases so far. Single cases are not kept: there may be millions.
+#[derive(Default)]
+struct Tally {
+    families: BTreeMap<&'static str, usize>,
+    reached: BTreeMap<String, usize>,
+    passed: usize,
+    failed: usize,
+    /// The first faults, with their families.
+    faults: BTreeMap<usize, (&'static str, Fault)>,
+    /// Why the mode ends early.
+    trouble: Option<String>,
+}
+
+impl Tally {
+    fn add(&mut self, i: usize, outcome: Outcome) {
+        *self.families.entry(outcome.family).or_default() += 1;
+        for what in outcome.reached {
+            *self.reached.entry(what).or_default() += 1;
+        }
+        let Some(fault) = outcome.found.0 else {
+            self.passed += 1;
+            return;
+        };
+        self.failed += 1;
+        self.faults.insert(i, (outcome.family, fault));
+        if self.faults.len() > SHOWN {
+            self.faults.pop_last();
+        }
+    }
+
+    /// Prints all, and the counts last.
+    fn tell(&self, mode: &str, needed: &Needed) -> ExitCode {
+        self.describe(mode);
+        let failed = match &self.trouble {
+            Some(reason) => {
+                println!("{mode}: ended early, {reason}");
+                self.failed.max(1)
+            }
+            None => self.failed + self.unreached(mode, needed),
+        };
+        println!("{mode}: {} passed, {failed} failed", self.passed);
+        ExitCode::from(u8::from(failed > 0))
+    }
+
+    /// Describes the first faults.
+    fn describe(&self, mode: &str) {
+        let dir = std::env::temp_dir().join(format!("second-{mode}-{}", std::process::id()));
+        for (i, (family, fault)) in &self.faults {
+            println!("case {i} ({family}): {}", fault.text);
+            match dump(&dir, *i, fault) {
+                Ok(path) => println!("  see {}", path.display()),
+                Err(error) => println!("  no dump: {error}"),
+            }
+        }
+    }
+
+    /// Prints what was reached, and counts what should have been and was not.
+    fn unreached(&self, mode: &str, needed: &Needed) -> usize {
+        for (family, count) in &self.families {
+            println!("{mode}: {count:6} {family}");
+        }
+        let counts: Vec<String> =
+            self.reached.iter().map(|(what, n)| format!("{what} {n}")).collect();
+        println!("{mode}: reached {}", counts.join(", "));
+        let mut missed = Vec::new();
+        if self.families.is_empty() {
+            missed.push("no case was run".to_string());
+        }
+        for what in needed.reached.iter().filter(|what| !self.reached.contains_key(*what)) {
+            missed.push(format!("no case reached {what}"));
+        }
+        for family in needed.families.iter().filter(|family| !self.families.contains_key(*family)) {
+            missed.push(format!("no case is one of: {family}"));
+        }
+        for text in &missed {
+            println!("{mode}: {text}");
+        }
+        missed.len()
+    }
+}
+
 /// Runs cases 0 to `total - 1`, as far as the plan goes, and prints what came of them.
 pub fn drive<F>(mode: &str, plan: &Plan, total: usize, needed: &Needed, case: F) -> ExitCode
 where
@@ -150,45 +231,33 @@ where
 {
     let total = total.min(plan.first);
     let next = AtomicUsize::new(0);
-    let outcomes: Mutex<BTreeMap<usize, Outcome>> = Mutex::new(BTreeMap::new());
-    // Why the mode ends early.
-    let trouble: Mutex<Option<String>> = Mutex::new(None);
+    let tally: Mutex<Tally> = Mutex::new(Tally::default());
     let hung = AtomicUsize::new(0);
     thread::scope(|scope| {
         for _ in 0..WORKERS {
             scope.spawn(|| loop {
                 let i = next.fetch_add(1, Ordering::Relaxed);
-                if i >= total || trouble.lock().expect("no worker panics").is_some() {
+                if i >= total || tally.lock().expect("no worker panics").trouble.is_some() {
                     break;
                 }
-                let reason = match catch_unwind(AssertUnwindSafe(|| case(i))) {
+                let done = catch_unwind(AssertUnwindSafe(|| case(i)));
+                let mut tally = tally.lock().expect("no worker panics");
+                let reason = match done {
                     Err(_) => Some(format!("case {i} panics")),
                     Ok(Err(error)) => Some(format!("a program cannot be run: {error}")),
                     Ok(Ok(outcome)) => {
                         let reason = ends(plan, &outcome, &hung);
-                        outcomes.lock().expect("no worker panics").insert(i, outcome);
+                        tally.add(i, outcome);
                         reason
                     }
                 };
                 if reason.is_some() {
-                    *trouble.lock().expect("no worker panics") = reason;
+                    tally.trouble = reason;
                 }
             });
         }
     });
-    let outcomes = outcomes.into_inner().expect("no worker panics");
-    let trouble = trouble.into_inner().expect("no worker panics");
-    let failed = describe(mode, &outcomes);
-    let failed = match trouble {
-        Some(reason) => {
-            println!("{mode}: ended early, {reason}");
-            failed.max(1)
-        }
-        None => failed + unreached(mode, &outcomes, needed),
-    };
-    let passed = outcomes.values().filter(|outcome| outcome.found.is_right()).count();
-    println!("{mode}: {passed} passed, {failed} failed");
-    ExitCode::from(u8::from(failed > 0))
+    tally.into_inner().expect("no worker panics").tell(mode, needed)
 }
 
 /// Why a mode ends with this case, if it does.
@@ -199,57 +268,6 @@ fn ends(plan: &Plan, outcome: &Outcome, hung: &AtomicUsize) -> Option<String> {
     }
     (fault.hung && hung.fetch_add(1, Ordering::Relaxed) + 1 >= HUNG)
         .then(|| "programs run on".to_string())
-}
-
-/// Describes the first faults, and counts them all.
-fn describe(mode: &str, outcomes: &BTreeMap<usize, Outcome>) -> usize {
-    let dir = std::env::temp_dir().join(format!("second-{mode}-{}", std::process::id()));
-    let mut failed = 0;
-    for (i, outcome) in outcomes {
-        let Some(fault) = &outcome.found.0 else {
-            continue;
-        };
-        failed += 1;
-        if failed <= SHOWN {
-            println!("case {i} ({}): {}", outcome.family, fault.text);
-            match dump(&dir, *i, fault) {
-                Ok(path) => println!("  see {}", path.display()),
-                Err(error) => println!("  no dump: {error}"),
-            }
-        }
-    }
-    failed
-}
-
-/// Prints what was reached, and counts what should have been and was not.
-fn unreached(mode: &str, outcomes: &BTreeMap<usize, Outcome>, needed: &Needed) -> usize {
-    let mut families: BTreeMap<&str, usize> = BTreeMap::new();
-    let mut reached: BTreeMap<&str, usize> = BTreeMap::new();
-    for outcome in outcomes.values() {
-        *families.entry(outcome.family).or_default() += 1;
-        for what in &outcome.reached {
-            *reached.entry(what).or_default() += 1;
-        }
-    }
-    for (family, count) in &families {
-        println!("{mode}: {count:6} {family}");
-    }
-    let counts: Vec<String> = reached.iter().map(|(what, n)| format!("{what} {n}")).collect();
-    println!("{mode}: reached {}", counts.join(", "));
-    let mut missed = Vec::new();
-    if outcomes.is_empty() {
-        missed.push("no case was run".to_string());
-    }
-    for what in needed.reached.iter().filter(|what| !reached.contains_key(what.as_str())) {
-        missed.push(format!("no case reached {what}"));
-    }
-    for family in needed.families.iter().filter(|family| !families.contains_key(*family)) {
-        missed.push(format!("no case is one of: {family}"));
-    }
-    for text in &missed {
-        println!("{mode}: {text}");
-    }
-    missed.len()
 }
 
 /// Writes a hex dump to read, and each part raw to run again.

@@ -2,6 +2,7 @@
 
 pub mod header;
 pub mod headers;
+pub mod pairs;
 pub mod picture;
 pub mod pictures;
 pub mod sheet;
