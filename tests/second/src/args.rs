@@ -9,7 +9,7 @@ use std::time::Duration;
 const PATIENCE: u64 = 20_000;
 const SEED: u64 = 1989;
 /// Flags without a value.
-const SWITCHES: [&str; 1] = ["until-fault"];
+const SWITCHES: [&str; 2] = ["until-fault", "small"];
 
 pub struct Args {
     pairs: Vec<(String, String)>,
@@ -31,8 +31,12 @@ impl Args {
         Ok(Args { pairs })
     }
 
-    fn get(&self, name: &str) -> Option<&str> {
+    pub fn get(&self, name: &str) -> Option<&str> {
         self.pairs.iter().rev().find(|(key, _)| key == name).map(|(_, value)| value.as_str())
+    }
+
+    pub fn is_set(&self, name: &str) -> bool {
+        self.get(name).is_some()
     }
 
     pub fn program(&self, name: &str) -> Result<Program, String> {
@@ -63,7 +67,7 @@ impl Args {
             count: count as usize,
             seed: self.number("seed", SEED)?,
             first: self.number("first", u64::MAX)? as usize,
-            until_fault: self.get("until-fault").is_some(),
+            until_fault: self.is_set("until-fault"),
         })
     }
 

@@ -1,7 +1,9 @@
 //! A second program for Intergraph raster files, written from the papers alone. It makes
-//! inputs from a seed, runs the programs under test over them and compares what they print.
+//! inputs from a seed, runs the programs under test over them and compares what they print. It
+//! calls the C functions under test, too, and compares what they leave in memory.
 
 mod args;
+mod calls;
 mod edges;
 mod fake;
 mod gen;
@@ -12,7 +14,11 @@ mod report;
 mod rng;
 mod run;
 
+pub use calls::Calls;
+
 use args::Args;
+use calls::stand_in;
+use gen::calls::Extent;
 use std::panic::catch_unwind;
 use std::path::Path;
 use std::process::ExitCode;
@@ -23,11 +29,14 @@ const USAGE: &str = "usage:
   second pairs --probe PROGRAM [FLAGS]
   second write --probe PROGRAM --listing PROGRAM --header PROGRAM [--peer DIR] [FLAGS]
   second turn --probe PROGRAM [FLAGS]
+  second calls --stand-in NAME [--peer DIR] [FLAGS]
   second selftest
 FLAGS: [--count N] [--seed S] [--patience MILLISECONDS] [--first N] [--until-fault]";
 
-const MODES: [&str; 6] = ["header", "sheets", "pairs", "write", "turn", "selftest"];
+const MODES: [&str; 7] = ["header", "sheets", "pairs", "write", "turn", "calls", "selftest"];
 const FLAGS: [&str; 6] = ["probe", "count", "seed", "patience", "first", "until-fault"];
+/// Those of the modes that call functions.
+const CALL_FLAGS: [&str; 6] = ["peer", "count", "seed", "first", "until-fault", "small"];
 
 /// The program `second`, called with these words.
 pub fn second(words: &[String]) -> ExitCode {
@@ -41,7 +50,25 @@ pub fn second(words: &[String]) -> ExitCode {
         eprintln!("{USAGE}");
         return ExitCode::FAILURE;
     };
-    let ended = catch_unwind(|| start(mode, &words[2..]));
+    told(mode, catch_unwind(|| start(mode, &words[2..])))
+}
+
+/// The program `c_calls`, called with these words: tries the functions that it is given.
+pub fn c_calls(calls: &Calls, words: &[String]) -> ExitCode {
+    let start = || try_calls(calls, &Args::parse(&words[1..], &CALL_FLAGS)?, Extent::Whole);
+    told(mode::calls::NAME, catch_unwind(start))
+}
+
+fn try_calls(calls: &Calls, args: &Args, extent: Extent) -> Result<ExitCode, String> {
+    let (extent, count) = match args.is_set("small") {
+        true => (Extent::Small, mode::calls::SMALL_COUNT),
+        false => (extent, mode::calls::DEFAULT_COUNT),
+    };
+    mode::calls::run(calls, &args.peer(), extent, &args.plan(count)?)
+}
+
+/// How a mode ended, which also tells that it could not begin.
+fn told(mode: &str, ended: std::thread::Result<Result<ExitCode, String>>) -> ExitCode {
     ended.unwrap_or(Err("panics".to_string())).unwrap_or_else(|text| {
         // Whoever looks at the last line only must see a failure too.
         println!("{mode}: {text}\n{mode}: 0 passed, 1 failed");
@@ -58,6 +85,12 @@ fn start(mode: &str, words: &[String]) -> Result<ExitCode, String> {
     if mode == "selftest" {
         Args::parse(words, &[])?;
         return mode::selftest::run().map_err(|error| error.to_string());
+    }
+    if mode == "calls" {
+        let args = Args::parse(words, &[&CALL_FLAGS[..], &["stand-in"]].concat())?;
+        let name = args.get("stand-in").unwrap_or_default();
+        let calls = stand_in::table(name).ok_or(format!("--stand-in: no {name:?}"))?;
+        return try_calls(&calls, &args, Extent::Middle);
     }
     let args = Args::parse(words, &[&FLAGS, more].concat())?;
     let probe = args.program("probe")?;

@@ -2,9 +2,10 @@
 
 use crate::run::{Program, Run};
 use std::collections::BTreeMap;
-use std::fmt::Write as _;
+use std::fmt::{Arguments, Write as _};
 use std::fs;
 use std::io;
+use std::ops::Range;
 use std::panic::{catch_unwind, AssertUnwindSafe};
 use std::path::{Path, PathBuf};
 use std::process::ExitCode;
@@ -115,6 +116,50 @@ pub fn judge(program: &Program, input: &[u8], wanted: &[u8], run: &Run) -> Found
         ],
         hung: run.hung,
     }))
+}
+
+/// A buffer of a call with its guards: what it should hold after the call, and what it holds.
+pub struct Held<'a> {
+    pub name: &'static str,
+    pub wanted: &'a [u8],
+    pub found: &'a [u8],
+    /// Where the bytes lie that the call was lent.
+    pub lent: Range<usize>,
+}
+
+/// Compares a call: its result, wanted first, and all of its buffers, to the byte.
+pub fn judge_call(call: &str, given: Arguments, results: [u32; 2], buffers: &[Held]) -> Found {
+    let [wanted, result] = results;
+    let wrong = buffers.iter().find(|held| held.wanted != held.found);
+    let what = match wrong {
+        _ if wanted != result => format!("result {result}, {wanted} wanted"),
+        Some(held) => place_of_difference(held),
+        None => return Found(None),
+    };
+    let mut dumps: Vec<(&'static str, Vec<u8>)> =
+        buffers.iter().map(|held| (held.name, held.found[held.lent.clone()].to_vec())).collect();
+    if let Some(held) = wrong {
+        dumps.push(("wanted", held.wanted[held.lent.clone()].to_vec()));
+    }
+    Found(Some(fault(format!("{call}: {what} {given}"), dumps)))
+}
+
+/// The first byte that differs, lent or of a guard.
+fn place_of_difference(held: &Held) -> String {
+    let at = held.wanted.iter().zip(held.found).take_while(|(a, b)| a == b).count();
+    let Range { start, end } = held.lent;
+    let name = held.name;
+    let place = match at {
+        _ if at < start => format!("{name}: guard, {} before its start,", start - at),
+        _ if at >= end => format!("{name}: guard, {} past its end,", at - end),
+        _ => format!("{name}: byte {} of {}", at - start, end - start),
+    };
+    format!("{place} is {}, {} wanted", held.found[at], held.wanted[at])
+}
+
+/// A case that is wrong before anything was compared.
+pub fn failed(fault: Fault) -> Found {
+    Found(Some(fault))
 }
 
 /// A fault found without a program, or in what several of them printed.
@@ -258,6 +303,31 @@ where
         }
     });
     tally.into_inner().expect("no worker panics").tell(mode, needed)
+}
+
+/// Runs one case after the other, until there are no more or the plan ends, and prints what came
+/// of them.
+pub fn walk(
+    mode: &str,
+    plan: &Plan,
+    needed: &Needed,
+    mut case: impl FnMut(usize) -> Option<Outcome>,
+) -> ExitCode {
+    let mut tally = Tally::default();
+    for i in 0..plan.first {
+        match catch_unwind(AssertUnwindSafe(|| case(i))) {
+            Err(_) => tally.trouble = Some(format!("case {i} panics")),
+            Ok(None) => break,
+            Ok(Some(outcome)) => {
+                tally.trouble = ends(plan, &outcome, &AtomicUsize::new(0));
+                tally.add(i, outcome);
+            }
+        }
+        if tally.trouble.is_some() {
+            break;
+        }
+    }
+    tally.tell(mode, needed)
 }
 
 /// Why a mode ends with this case, if it does.

@@ -92,6 +92,22 @@ pub fn some_picture(rng: &mut Rng) -> Picture {
         2 => (rng.range(1_500, 70_000), rng.range(1, 2)),
         _ => (rng.range(1, 50), rng.range(1, 10)),
     };
+    picture_of(rng, kind, ppl, nol)
+}
+
+/// The same with few wide ones, or none.
+pub fn some_small_picture(rng: &mut Rng, no_wide: bool) -> Picture {
+    let kind = rng.pick(&TYPES);
+    let (ppl, nol) = match rng.below(600) {
+        0 if !no_wide => (rng.range(1_500, 70_000), rng.range(1, 2)),
+        0..=7 => (rng.range(1, 1500), rng.range(1, 5)),
+        8..=15 => (rng.range(1, 8), rng.range(100, 300)),
+        _ => (rng.range(1, 50), rng.range(1, 10)),
+    };
+    picture_of(rng, kind, ppl, nol)
+}
+
+fn picture_of(rng: &mut Rng, kind: u16, ppl: usize, nol: usize) -> Picture {
     let mut pixels: Vec<u16> = (0..nol).flat_map(|_| some_row(rng, kind, ppl)).collect();
     if rng.one_in(4) {
         // More than the picture needs, and nothing the type could hold.
