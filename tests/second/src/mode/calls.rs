@@ -24,9 +24,11 @@ use std::path::Path;
 use std::process::ExitCode;
 
 pub const NAME: &str = "c_calls";
-pub const DEFAULT_COUNT: u64 = 400_000;
+pub const DEFAULT_COUNT: u64 = 1_000_000;
 /// In a small extent.
-pub const SMALL_COUNT: u64 = 1_200;
+pub const SMALL_COUNT: u64 = 1_500;
+/// So many cases must have some of every kind that is by chance.
+const ENOUGH: usize = 100_000;
 
 pub fn run(calls: &Calls, peer: &Path, extent: Extent, plan: &Plan) -> Result<ExitCode, String> {
     let bench = Bench { calls, bare: extent == Extent::Small };
@@ -93,7 +95,7 @@ fn needed(extent: Extent, plan: &Plan) -> Needed {
     for way in ["upright", "back"] {
         reached.extend((0..8).map(|slo| format!("trip of {way} {slo}")));
     }
-    if plan.count >= DEFAULT_COUNT as usize {
+    if plan.count >= ENOUGH {
         families.extend(BY_CHANCE);
         reached.extend(EFFECTS.map(Into::into));
         reached.extend(["pair refused 23", "pair refused 24", "pair refused 29"].map(Into::into));
