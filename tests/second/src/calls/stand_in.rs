@@ -410,7 +410,7 @@ pub const DEFECTS: [Defect; 60] = [
             result
         }),
     ),
-    // The first line of a second band of 4,096 pixels taken for the last of the first.
+    // The first line of a second band of 65,535 pixels left out.
     defect(
         "band-forgets-a-line",
         "ingr_raster: pixels: byte ",
@@ -418,7 +418,7 @@ pub const DEFECTS: [Defect; 60] = [
             let result = c::raster(file, pixels, marks, answer);
             if result <= 1 {
                 let width = long(file, 184) as usize;
-                let line = 4_096 / width;
+                let line = 65_535 / width;
                 if line > 0 && line < long(file, 188) as usize {
                     pixels[2 * line * width..][..2 * width].fill(0);
                 }
@@ -426,7 +426,7 @@ pub const DEFECTS: [Defect; 60] = [
             result
         }),
     ),
-    // Marks of lines from 65,536 bytes on that the chain no longer reaches.
+    // One mark far down.
     defect(
         "tall-sheet-unmarked",
         "ingr_raster: marks: byte ",

@@ -1,7 +1,7 @@
 //! The cases of `c_calls`: inputs of the other modes, and the lengths of the slices lent.
 
 use super::header::{some_entries, Draft};
-use super::large::{self, some_banded, some_large};
+use super::large::{self, some_banded, some_large, some_large_picture, some_large_turning};
 use super::pairs::{changed, some_pair, Pair};
 use super::picture::{some_small_picture, Picture};
 use super::sheet::{headed, sheet, some_bare, some_lines, Harm, TYPES};
@@ -175,11 +175,29 @@ fn small_sheet(rng: &mut Rng, kind: u16, scn: u8) -> Vec<u8> {
     }
 }
 
-/// Small sheets of every kind into pixel and mark slices of every length around what is needed.
+/// Sides whose number of bytes is small again in 32 bits or in 16.
+const WRAPPED: [(u32, u32); 6] =
+    [(65_535, 32_769), (65_535, 32_770), (65_534, 32_770), (256, 256), (257, 256), (32_768, 2)];
+
+/// Small sheets of every kind into pixel and mark slices of every length around what is needed,
+/// and large ones into as few as a product of fewer bits would ask for.
 fn buffers(rng: &mut Rng) -> Vec<What> {
     let mut all = Vec::new();
+    for (ppl, nol) in WRAPPED {
+        let file = Draft { ppl, nol, ..Draft::plain(2, 2) }.bytes();
+        let bytes = 2 * u64::from(ppl) * u64::from(nol);
+        for pixels in [bytes as u32 as usize, bytes as u16 as usize].map(|n| n.min(200_000)) {
+            let lend = Lend { pixels, marks: nol as usize, answer: RASTER_ANSWER };
+            all.push(What::Raster { file: file.clone(), lend });
+        }
+    }
     for kind in TYPES {
         for scn in [0, 1] {
+            let long = Draft { scn, ppl: 3, nol: 2, ..Draft::plain(kind, 256) };
+            let mut file = long.bytes();
+            file.extend(&small_sheet(rng, kind, scn)[1_024..]);
+            let lend = needed(&file);
+            all.push(What::Raster { file, lend });
             let file = small_sheet(rng, kind, scn);
             let enough = needed(&file);
             for pixels in 0..=enough.pixels + 5 {
@@ -276,6 +294,12 @@ fn bits(rng: &mut Rng) -> Vec<What> {
 
 fn larges(rng: &mut Rng) -> Vec<What> {
     let mut all = Vec::new();
+    for picture in large::pictures(rng) {
+        all.push(What::Picture { picture, answer: WRITE_ANSWER });
+    }
+    for turning in large::turnings(rng) {
+        all.push(if rng.one_in(3) { What::Trip(turning) } else { What::Turning(turning) });
+    }
     for file in large::fixed(rng) {
         let enough = needed(&file);
         let lend = Lend { pixels: enough.pixels + rng.below(4), ..enough };
@@ -326,16 +350,25 @@ pub fn random(rng: &mut Rng, extent: Extent) -> Case {
             let way = rng.below(2) as u32;
             (BY_CHANCE[6], What::Trip(some_turning(rng, way)))
         }
-        92..=96 if !small => (BY_CHANCE[7], some_pair_or_raster(rng, BY_CHANCE[7], some_banded)),
-        97 if !small && rng.one_in(20) => {
-            (BY_CHANCE[8], some_pair_or_raster(rng, BY_CHANCE[8], some_large))
+        96 if !small && rng.one_in(2) => {
+            (BY_CHANCE[7], some_pair_or_raster(rng, BY_CHANCE[7], some_banded))
         }
+        97 if !small && rng.one_in(15) => (BY_CHANCE[8], some_large_case(rng)),
         _ => {
             let file = sheets::random(rng).file;
             (BY_CHANCE[2], raster(rng, file))
         }
     };
     Case { family, what }
+}
+
+fn some_large_case(rng: &mut Rng) -> What {
+    match rng.below(6) {
+        0 => What::Picture { picture: some_large_picture(rng), answer: WRITE_ANSWER },
+        1 => What::Turning(some_large_turning(rng)),
+        2 => What::Trip(some_large_turning(rng)),
+        _ => some_pair_or_raster(rng, BY_CHANCE[8], some_large),
+    }
 }
 
 /// A sheet to be read, or one of its pairs.

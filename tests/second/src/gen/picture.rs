@@ -75,11 +75,15 @@ impl Picture {
         })
     }
 
-    /// Gives as much room as the file needs, and `more` bytes.
+    /// Gives as much room as the file needs, and `more` bytes, as far as the program has it.
     pub fn fit(&mut self, more: i64) {
-        self.room = crate::model::probe::WRITE_ROOM as u32;
+        self.fit_within(more, crate::model::probe::WRITE_ROOM as u32);
+    }
+
+    pub fn fit_within(&mut self, more: i64, most: u32) {
+        self.room = most;
         let length = self.written().map_or(1_200, |file| file.len());
-        self.room = (length as i64 + more).clamp(0, i64::from(self.room)) as u32;
+        self.room = (length as i64 + more).clamp(0, i64::from(most)) as u32;
     }
 }
 
