@@ -3,6 +3,7 @@
 
 use super::bed::Bed;
 use super::call::{held, Bench};
+use crate::gen::put;
 use crate::model::c::{
     self, COLOR_ANSWER, HEADER_ANSWER, RASTER_ANSWER, SHORT_ANSWER, WRITE_ANSWER,
 };
@@ -44,38 +45,54 @@ impl Drop for Zeros {
     }
 }
 
-/// Every call with a file or a picture on both sides of the limit.
+/// Every call with a file or a picture on both sides of the limit, and a sheet that nearly fills
+/// the longest file.
 pub fn check(bench: &Bench, reached: &mut Vec<String>) -> Found {
     let Some(mut zeros) = Zeros::new() else {
         return report::failed(fault("no memory for more than 2 GB".to_string(), Vec::new()));
     };
+    let bytes = zeros.bytes();
     // A sheet of bytes without line headers, eight by three.
-    let fields: [(usize, &[u8]); 6] = [
-        (0, &[0x08, 0x09, 0xFE, 0x01, 2]),
-        (184, &[8]),
-        (188, &[3]),
-        (194, &[5]),
-        (511, &[3]),
-        (1_030, &[77]),
-    ];
-    for (at, bytes) in fields {
-        zeros.bytes()[at..at + bytes.len()].copy_from_slice(bytes);
-    }
-    let zeros = &*zeros.bytes();
+    put(bytes, 0, &[0x08, 0x09, 0xFE, 0x01, 2]);
+    put(bytes, 184, &[8, 0, 0, 0, 3]);
+    put(bytes, 194, &[5]);
+    put(bytes, 511, &[3]);
+    put(bytes, 1_030, &[77]);
     let mut rng = Rng::new(0, 0);
     let longest = LONGEST_FILE as usize;
-    let mut found = write(bench, &mut rng, zeros, HEIGHT, 1, SHORT_ANSWER);
+    let mut found = write(bench, &mut rng, bytes, HEIGHT, 1, SHORT_ANSWER);
     for (height, number) in [(HEIGHT, 10), (HEIGHT - 1, 28)] {
-        found = found.and(write(bench, &mut rng, zeros, height, 0, number));
+        found = found.and(write(bench, &mut rng, bytes, height, 0, number));
         reached.push(format!("write refused {number}"));
     }
     for length in [longest - 1, longest, longest + 1, LENGTH] {
         for less in [0, 1] {
             let lengths = [HEADER_ANSWER, COLOR_ANSWER, RASTER_ANSWER].map(|n| n - less);
-            found = found.and(read(bench, &mut rng, &zeros[..length], lengths, reached));
+            found = found.and(read(bench, &mut rng, &bytes[..length], lengths, reached));
         }
     }
+    lay_long_lines(bytes);
+    for length in [longest - 1, longest] {
+        let lengths = [HEADER_ANSWER, COLOR_ANSWER, RASTER_ANSWER];
+        found = found.and(read(bench, &mut rng, &bytes[..length], lengths, reached));
+    }
     found
+}
+
+/// Bytes of the longest line there is.
+const LONGEST_LINE: usize = 4 + 2 * 65_535;
+
+/// Makes a sheet of the longest lines, one pixel each, refused for their numbers and offsets. The
+/// last one runs past the file, near its end.
+fn lay_long_lines(bytes: &mut [u8]) {
+    let lines = (LONGEST_FILE as usize - 1_024) / LONGEST_LINE + 1;
+    put(bytes, 184, &[1, 0, 0, 0, lines as u8, (lines >> 8) as u8]);
+    put(bytes, 195, &[1]);
+    for i in 0..lines {
+        let number = (i + 1 + i % 2) as u16;
+        let [low, high] = number.to_le_bytes();
+        put(bytes, 1_024 + i * LONGEST_LINE, &[0, 0x59, 0xFF, 0xFF, low, high, 1, 0]);
+    }
 }
 
 fn read(
@@ -88,8 +105,8 @@ fn read(
     let name = format!("file of {} bytes", file.len());
     let (file, len) = (file, file.len());
     let mut answers = lengths.map(|length| Bed::<u8>::dirty(rng, false, "answer", length));
-    let mut pixels = Bed::<u8>::dirty(rng, false, "pixels", 50);
-    let mut marks = Bed::<u8>::dirty(rng, false, "marks", 4);
+    let mut pixels = Bed::<u8>::dirty(rng, false, "pixels", 40_000);
+    let mut marks = Bed::<u8>::dirty(rng, false, "marks", 20_000);
     let [mut header, mut color, mut raster] = answers.clone();
     let mut buffers = (pixels.clone(), marks.clone());
     let wanted = [

@@ -164,9 +164,9 @@ fn reached_by(read: &Read, file: &[u8], reached: &mut Vec<String>) {
         let (kind, scn) = (word(file, 4), file[195]);
         reached.push(format!("answer {}", read.result));
         reached.push(format!("read type {kind} scn {scn}"));
-        let lines = long(file, 188) as usize;
         let mut seen = [false; 256];
-        read.marks.lent()[..lines].iter().for_each(|&mark| seen[usize::from(mark)] = true);
+        let marks = read.marks.lent().iter().take(long(file, 188) as usize);
+        marks.for_each(|&mark| seen[usize::from(mark)] = true);
         let kind = if scn == 1 { "with headers" } else { "without" };
         let marks = (0..256).filter(|&mark| seen[mark]);
         reached.extend(marks.map(|mark| format!("mark {mark} {kind}")));
@@ -368,11 +368,13 @@ fn demand_3(pair: &Pair, first: &Read, second: &Read, lend: Lend) -> Result<(), 
     }
     let (ppl, nol) = (long(&pair.first, 184) as usize, long(&pair.first, 188) as usize);
     let short = lend.pixels < 2 * ppl * nol || lend.marks < nol || lend.answer < RASTER_ANSWER;
-    if second.result > 1 {
-        return match short {
-            true => Ok(()),
-            false => Err(format!("refused with {}, but no buffer is too short", second.result)),
-        };
+    match (second.result > 1, short) {
+        (true, true) => return Ok(()),
+        (true, false) => {
+            return Err(format!("refused with {}, but no buffer is too short", second.result))
+        }
+        (false, true) => return Err("a buffer is too short, and it is not refused".to_string()),
+        (false, false) => {}
     }
     let [old, new] = [first, second].map(|read| numbers(read.answer.lent(), 2));
     if old[1] != new[1] {
