@@ -5,10 +5,10 @@ use std::path::PathBuf;
 
 fn main() {
     println!("cargo::rerun-if-changed=build.rs");
-    println!("cargo::rerun-if-env-changed=INGR_LIB_DIR");
     if env::var_os("CARGO_FEATURE_ARCHIVE").is_none() {
         return;
     }
+    println!("cargo::rerun-if-env-changed=INGR_LIB_DIR");
     let beside = || PathBuf::from(concat!(env!("CARGO_MANIFEST_DIR"), "/../../target/c"));
     let library = env::var_os("INGR_LIB_DIR").map_or_else(beside, PathBuf::from).join("libingr.a");
     // One that was built anew is linked anew.

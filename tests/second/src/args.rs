@@ -5,7 +5,7 @@ use crate::run::Program;
 use std::path::PathBuf;
 use std::time::Duration;
 
-/// How long a program under test may take, in milliseconds.
+/// How long a program or a call under test may take, in milliseconds.
 const PATIENCE: u64 = 20_000;
 const SEED: u64 = 1989;
 /// Flags without a value.
@@ -48,8 +48,7 @@ impl Args {
         // kept, as a program may look at the name it is called by.
         let path =
             std::path::absolute(&path).map_err(|error| format!("{}: {error}", path.display()))?;
-        let patience = Duration::from_millis(self.number("patience", PATIENCE)?);
-        Ok(Program { path, patience })
+        Ok(Program { path, patience: self.patience()? })
     }
 
     /// The sheets of the other program; by default those that stand beside this one.
@@ -68,7 +67,12 @@ impl Args {
             seed: self.number("seed", SEED)?,
             first: self.number("first", u64::MAX)? as usize,
             until_fault: self.is_set("until-fault"),
+            patience: self.patience()?,
         })
+    }
+
+    fn patience(&self) -> Result<Duration, String> {
+        Ok(Duration::from_millis(self.number("patience", PATIENCE)?))
     }
 
     fn number(&self, name: &str, default: u64) -> Result<u64, String> {

@@ -36,7 +36,8 @@ FLAGS: [--count N] [--seed S] [--patience MILLISECONDS] [--first N] [--until-fau
 const MODES: [&str; 7] = ["header", "sheets", "pairs", "write", "turn", "calls", "selftest"];
 const FLAGS: [&str; 6] = ["probe", "count", "seed", "patience", "first", "until-fault"];
 /// Those of the modes that call functions.
-const CALL_FLAGS: [&str; 6] = ["peer", "count", "seed", "first", "until-fault", "small"];
+const CALL_FLAGS: [&str; 8] =
+    ["peer", "count", "seed", "patience", "first", "until-fault", "small", "family"];
 
 /// The program `second`, called with these words.
 pub fn second(words: &[String]) -> ExitCode {
@@ -64,7 +65,17 @@ fn try_calls(calls: &Calls, args: &Args, extent: Extent) -> Result<ExitCode, Str
         true => (Extent::Small, mode::calls::SMALL_COUNT),
         false => (extent, mode::calls::DEFAULT_COUNT),
     };
-    mode::calls::run(calls, &args.peer(), extent, &args.plan(count)?)
+    let family = args.get("family").map(|name| {
+        let known = gen::calls::BY_CHANCE.into_iter().find(|family| *family == name);
+        known.ok_or(format!("--family: no {name:?}, but {}", gen::calls::BY_CHANCE.join(", ")))
+    });
+    let scope = mode::calls::Scope { extent, family: family.transpose()? };
+    let mut plan = args.plan(count)?;
+    if !args.is_set("patience") {
+        // One case reads more than 2 GB several times.
+        plan.patience *= 6;
+    }
+    mode::calls::run(calls, &args.peer(), &scope, &plan)
 }
 
 /// How a mode ended, which also tells that it could not begin.

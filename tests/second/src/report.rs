@@ -10,8 +10,9 @@ use std::panic::{catch_unwind, AssertUnwindSafe};
 use std::path::{Path, PathBuf};
 use std::process::ExitCode;
 use std::sync::atomic::{AtomicUsize, Ordering};
-use std::sync::Mutex;
+use std::sync::{Arc, Mutex};
 use std::thread;
+use std::time::Duration;
 
 const WORKERS: usize = 2;
 /// Mismatches that are described in full.
@@ -28,6 +29,8 @@ pub struct Plan {
     pub first: usize,
     /// Ends the mode at the first fault.
     pub until_fault: bool,
+    /// A case of `walk` that takes longer ends all.
+    pub patience: Duration,
 }
 
 /// What the cases of a mode must have reached: a generator that no longer gets there would
@@ -314,7 +317,10 @@ pub fn walk(
     mut case: impl FnMut(usize) -> Option<Outcome>,
 ) -> ExitCode {
     let mut tally = Tally::default();
+    let now = Arc::new(AtomicUsize::new(0));
+    watch(mode, plan.patience, Arc::clone(&now));
     for i in 0..plan.first {
+        now.store(i, Ordering::Relaxed);
         match catch_unwind(AssertUnwindSafe(|| case(i))) {
             Err(_) => tally.trouble = Some(format!("case {i} panics")),
             Ok(None) => break,
@@ -328,6 +334,19 @@ pub fn walk(
         }
     }
     tally.tell(mode, needed)
+}
+
+/// Ends the program where a case runs on: a call cannot be stopped from outside.
+fn watch(mode: &str, patience: Duration, now: Arc<AtomicUsize>) {
+    let mode = mode.to_string();
+    thread::spawn(move || loop {
+        let before = now.load(Ordering::Relaxed);
+        thread::sleep(patience);
+        if now.load(Ordering::Relaxed) == before {
+            println!("case {before}: runs on\n{mode}: {before} passed, 1 failed");
+            std::process::exit(1);
+        }
+    });
 }
 
 /// Why a mode ends with this case, if it does.

@@ -8,6 +8,7 @@ use crate::model::c::{
 use crate::model::{header, long, turn};
 use std::slice::{from_raw_parts, from_raw_parts_mut};
 use std::sync::{Mutex, OnceLock};
+use std::time::Duration;
 
 type Header = fn(&[u8], &mut [u8]) -> u32;
 type Color = fn(&[u8], u32, &mut [u8]) -> u32;
@@ -42,7 +43,20 @@ const fn defect(name: &'static str, told: &'static str, change: Change) -> Defec
 
 pub const RIGHT: &str = "right";
 
-pub const DEFECTS: [Defect; 60] = [
+/// Those whose pairs must show it by themselves, and what is told.
+pub const OF_PAIRS: [(&str, &str); 9] = [
+    ("refused-row-unpainted", "and not blank"),
+    ("unpainted-after-lost", "differs, but its body does not"),
+    ("last-sheet-under-damage", "and not blank"),
+    ("pixels-high-byte-first", "not read by its own header and body"),
+    ("damage-spreads", "not read by its own header and body"),
+    ("end-by-total", "the ends are"),
+    ("every-sheet-good", "answer 0 with"),
+    ("good-and-end-exchanged", "the good lines are not those marked 0"),
+    ("odd-slices-refused", "the first call is refused with 23"),
+];
+
+pub const DEFECTS: [Defect; 63] = [
     defect(RIGHT, "", Change::None),
     // 29 after another number, too early, too late.
     defect(
@@ -410,6 +424,37 @@ pub const DEFECTS: [Defect; 60] = [
             result
         }),
     ),
+    // The line below one that has a wrong total is taken for wrong too.
+    defect(
+        "damage-spreads",
+        "ingr_raster: ",
+        Change::Raster(|file, pixels, marks, answer| {
+            let result = c::raster(file, pixels, marks, answer);
+            if result == 1 {
+                let (width, lines) = (2 * long(file, 184) as usize, long(file, 188) as usize);
+                for i in 1..lines {
+                    if matches!((marks[i - 1], marks[i]), (7 | 8, 0)) {
+                        marks[i] = 5;
+                        pixels[i * width..(i + 1) * width].fill(0);
+                        let good = long(answer, 0) - 1;
+                        c::put_numbers(&mut answer[..4], &[good]);
+                    }
+                }
+            }
+            result
+        }),
+    ),
+    defect(
+        "end-by-total",
+        "ingr_raster: answer: byte 4 of ",
+        Change::Raster(|file, pixels, marks, answer| {
+            let result = c::raster(file, pixels, marks, answer);
+            if result == 1 && marks[..long(file, 188) as usize].contains(&7) {
+                answer[4] ^= 2;
+            }
+            result
+        }),
+    ),
     // The first line of a second band of 65,535 pixels left out.
     defect(
         "band-forgets-a-line",
@@ -524,6 +569,17 @@ pub const DEFECTS: [Defect; 60] = [
                 28
             }
             number => number,
+        }),
+    ),
+    defect(
+        "runs-on",
+        "runs on",
+        Change::Header(|file, answer| {
+            let result = c::header(file, answer);
+            if result == 22 {
+                std::thread::sleep(Duration::MAX);
+            }
+            result
         }),
     ),
     // Bytes that no call may touch.

@@ -6,7 +6,7 @@ use super::pairs::{changed, some_pair, Pair};
 use super::picture::{some_small_picture, Picture};
 use super::sheet::{headed, sheet, some_bare, some_lines, Harm, TYPES};
 use super::turning::{faulty, some_turning, Turning, FAULTS};
-use super::{headers, pictures, sheets, turnings};
+use super::{headers, picture, pictures, sheets, turnings};
 use crate::calls::call::Lend;
 use crate::edges::{self, Edge, TurnedEdge, WrittenEdge};
 use crate::model::c::{COLOR_ANSWER, HEADER_ANSWER, RASTER_ANSWER, WRITE_ANSWER};
@@ -58,29 +58,29 @@ pub const SMALL: [&str; 2] = ["lengths of answer slices", "lengths of buffers"];
 pub const FIXED: [&str; 7] =
     ["headers", "every color", "sheets", "pictures", "turnings", "one bit changed", "large sheets"];
 pub const VAST: &str = "more than 2 GB";
-pub const BY_CHANCE: [&str; 9] = [
-    "headers by chance",
-    "colors by chance",
-    "sheets by chance",
-    "pairs by chance",
-    "pictures by chance",
-    "turnings by chance",
-    "round trips by chance",
-    "bands by chance",
-    "large ones by chance",
-];
+const HEADERS: &str = "headers by chance";
+const COLORS: &str = "colors by chance";
+const SHEETS: &str = "sheets by chance";
+pub const PAIRS: &str = "pairs by chance";
+const PICTURES: &str = "pictures by chance";
+const TURNINGS: &str = "turnings by chance";
+const TRIPS: &str = "round trips by chance";
+const BANDS: &str = "bands by chance";
+const LARGE: &str = "large ones by chance";
+pub const BY_CHANCE: [&str; 9] =
+    [HEADERS, COLORS, SHEETS, PAIRS, PICTURES, TURNINGS, TRIPS, BANDS, LARGE];
 
-/// Which cases are left out.
+/// Which cases there are.
 #[derive(Clone, Copy, PartialEq)]
 pub enum Extent {
-    /// All but a few small ones.
+    /// A few small ones.
     Small,
-    /// Those of more than 2 GB.
+    /// All but those of more than 2 GB.
     Middle,
     Whole,
 }
 
-/// What is left of pictures and sheets in a small extent, in pixels.
+/// The largest edge of the writer in a small extent, in pixels.
 const SMALL_PICTURE: usize = 3_000;
 
 /// The cases that are always run. No group of them is made before it is come to.
@@ -312,54 +312,69 @@ fn larges(rng: &mut Rng) -> Vec<What> {
     all
 }
 
-/// A case by chance.
-pub fn random(rng: &mut Rng, extent: Extent) -> Case {
+/// A case by chance, of one family or of any.
+pub fn random(rng: &mut Rng, extent: Extent, family: Option<&'static str>) -> Case {
     let small = extent == Extent::Small;
-    let (family, what) = match rng.below(100) {
-        0..=15 => {
+    let family = family.unwrap_or_else(|| some_family(rng, small));
+    Case { family, what: some_of(rng, small, family) }
+}
+
+fn some_family(rng: &mut Rng, small: bool) -> &'static str {
+    match rng.below(100) {
+        0..=15 => HEADERS,
+        16..=29 => COLORS,
+        30..=37 => PAIRS,
+        38..=49 => PICTURES,
+        50..=59 => TURNINGS,
+        60..=63 => TRIPS,
+        64 if !small && rng.one_in(2) => BANDS,
+        65 if !small && rng.one_in(15) => LARGE,
+        _ => SHEETS,
+    }
+}
+
+fn some_of(rng: &mut Rng, small: bool, family: &str) -> What {
+    match family {
+        HEADERS => {
             let file = headers::random(rng).bytes;
-            let answer = some_length(rng, HEADER_ANSWER);
-            (BY_CHANCE[0], What::Header { file, answer, first: None })
+            What::Header { file, answer: some_length(rng, HEADER_ANSWER), first: None }
         }
-        16..=29 => {
+        COLORS => {
+            let accepted = !rng.one_in(4);
             let file =
-                if rng.one_in(4) { headers::random(rng).bytes } else { Draft::random(rng).bytes() };
+                if accepted { Draft::random(rng).bytes() } else { headers::random(rng).bytes };
             let value = some_value(rng, &file);
-            (BY_CHANCE[1], What::Color { file, value, answer: some_length(rng, COLOR_ANSWER) })
+            What::Color { file, value, answer: some_length(rng, COLOR_ANSWER) }
         }
-        58..=65 => (BY_CHANCE[3], What::Pair(some_pair(rng))),
-        66..=77 => {
+        PAIRS => What::Pair(some_pair(rng)),
+        PICTURES => {
             let mut picture = some_small_picture(rng, small);
             for _ in 0..rng.pick(&[0, 0, 0, 0, 0, 1, 2, 3]) {
                 let number = rng.pick(&pictures::REJECTIONS);
-                super::picture::spoil(rng, &mut picture, number);
+                picture::spoil(rng, &mut picture, number);
             }
-            (BY_CHANCE[4], What::Picture { picture, answer: some_length(rng, WRITE_ANSWER) })
+            What::Picture { picture, answer: some_length(rng, WRITE_ANSWER) }
         }
-        78..=87 => {
+        TURNINGS => {
             let way = rng.below(2) as u32;
-            let turning = if rng.one_in(4) {
+            What::Turning(if rng.one_in(4) {
                 let faults = rng.pick(&FAULTS);
                 faulty(rng, way, faults)
             } else {
                 some_turning(rng, way)
-            };
-            (BY_CHANCE[5], What::Turning(turning))
+            })
         }
-        88..=91 => {
+        TRIPS => {
             let way = rng.below(2) as u32;
-            (BY_CHANCE[6], What::Trip(some_turning(rng, way)))
+            What::Trip(some_turning(rng, way))
         }
-        96 if !small && rng.one_in(2) => {
-            (BY_CHANCE[7], some_pair_or_raster(rng, BY_CHANCE[7], some_banded))
-        }
-        97 if !small && rng.one_in(15) => (BY_CHANCE[8], some_large_case(rng)),
+        BANDS => some_pair_or_raster(rng, BANDS, some_banded),
+        LARGE => some_large_case(rng),
         _ => {
             let file = sheets::random(rng).file;
-            (BY_CHANCE[2], raster(rng, file))
+            raster(rng, file)
         }
-    };
-    Case { family, what }
+    }
 }
 
 fn some_large_case(rng: &mut Rng) -> What {
@@ -367,7 +382,7 @@ fn some_large_case(rng: &mut Rng) -> What {
         0 => What::Picture { picture: some_large_picture(rng), answer: WRITE_ANSWER },
         1 => What::Turning(some_large_turning(rng)),
         2 => What::Trip(some_large_turning(rng)),
-        _ => some_pair_or_raster(rng, BY_CHANCE[8], some_large),
+        _ => some_pair_or_raster(rng, LARGE, some_large),
     }
 }
 

@@ -30,14 +30,27 @@ pub const SMALL_COUNT: u64 = 1_500;
 /// So many cases must have some of every kind that is by chance.
 const ENOUGH: usize = 100_000;
 
-pub fn run(calls: &Calls, peer: &Path, extent: Extent, plan: &Plan) -> Result<ExitCode, String> {
+/// Which cases are run, besides what the plan says.
+pub struct Scope {
+    pub extent: Extent,
+    /// No cases but these, which are by chance.
+    pub family: Option<&'static str>,
+}
+
+pub fn run(calls: &Calls, peer: &Path, scope: &Scope, plan: &Plan) -> Result<ExitCode, String> {
+    let Scope { extent, family } = *scope;
     let bench = Bench { calls, bare: extent == Extent::Small };
     let mut fixed = fixed(plan.seed, extent, Peer::all(peer)?);
-    Ok(report::walk(NAME, plan, &needed(extent, plan), |i| {
+    let needed = match family {
+        Some(family) => Needed { reached: Vec::new(), families: vec![family] },
+        None => needed(extent, plan),
+    };
+    Ok(report::walk(NAME, plan, &needed, |i| {
         let mut rng = Rng::new(plan.seed, i as u64);
-        let case = match fixed.next() {
+        let known = if family.is_none() { fixed.next() } else { None };
+        let case = match known {
             Some(case) => case,
-            None if i < plan.count => random(&mut rng, extent),
+            None if i < plan.count => random(&mut rng, extent, family),
             None => return None,
         };
         Some(check(&bench, &mut rng, &case))

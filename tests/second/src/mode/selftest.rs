@@ -3,6 +3,7 @@
 
 use crate::calls::stand_in;
 use crate::fake;
+use crate::gen::calls::PAIRS;
 use crate::peer;
 use std::fs::{self, Permissions};
 use std::io;
@@ -15,8 +16,8 @@ use std::thread;
 /// Milliseconds that a stand-in is given which runs on.
 const SHORT_PATIENCE: &str = "300";
 
-/// Calls that the right functions must pass, beside those that are always made.
-const CALLS: &str = "30000";
+/// Calls that the right functions must pass; some three quarters of them are always made.
+const CALLS: &str = "20000";
 
 const RUNS_ON: &str = "runs on and was stopped";
 
@@ -233,8 +234,21 @@ impl Bench {
         ];
         for defect in stand_in::DEFECTS.iter().filter(|defect| defect.name != right) {
             let wanted = tells(&["case ", defect.told]);
-            trials.push(trial(defect.name, defect.name, &["--until-fault"], wanted));
+            let words = ["--until-fault", "--patience", SHORT_PATIENCE];
+            let words = if defect.told == "runs on" { &words } else { &words[..1] };
+            trials.push(trial(defect.name, defect.name, words, wanted));
         }
+        // Demand 3 by itself, whatever the model says.
+        for (name, told) in stand_in::OF_PAIRS {
+            let words = ["--family", PAIRS, "--count", "300"];
+            trials.push(trial(
+                &format!("{name}, in pairs"),
+                name,
+                &words,
+                tells(&["demand 3", told]),
+            ));
+        }
+        trials.push(trial("pairs", right, &["--family", PAIRS, "--count", "300"], Wanted::Passes));
         let told = ["no case was run", "no case reached", "no case is one of"];
         let missing = self.path("missing");
         for (with, more, told) in [
