@@ -2,7 +2,7 @@
 
 use super::bed::{Bed, Cell};
 use super::Calls;
-use crate::model::c;
+use crate::model::{c, long};
 use crate::report::{self, Found, Held};
 use crate::rng::Rng;
 
@@ -177,4 +177,9 @@ impl Bench<'_> {
 pub fn held<'a, T: Cell>(wanted: &'a Bed<T>, found: &'a Bed<T>) -> Held<'a> {
     let (wanted, lent) = wanted.bytes();
     Held { name: found.name, wanted, found: found.bytes().0, lent }
+}
+
+/// The numbers of an answer.
+pub fn numbers(answer: &[u8], count: usize) -> Vec<u64> {
+    (0..count).map(|i| long(answer, 4 * i)).collect()
 }

@@ -3,6 +3,7 @@
 
 pub mod bed;
 pub mod call;
+pub mod demand_3;
 pub mod stand_in;
 pub mod vast;
 

@@ -1,9 +1,8 @@
 //! Mode `calls`: the C functions, called in this process. Every case is one call, or a pair or a
 //! round trip of them, compared whole.
 
-use crate::calls::call::{Bench, Done, Lend, Read};
-use crate::calls::vast;
-use crate::calls::Calls;
+use crate::calls::call::{numbers, Bench, Done, Lend, Read};
+use crate::calls::{demand_3, vast, Calls};
 use crate::edges::{Edge, TurnedEdge, WrittenEdge};
 use crate::gen::calls::{
     fixed, needed as enough_for, random, some_lend, Case, Extent, What, BY_CHANCE, EDGES, FIXED,
@@ -16,7 +15,7 @@ use crate::gen::turning::Turning;
 use crate::model::c::{self, COLOR_ANSWER, HEADER_ANSWER, RASTER_ANSWER, WRITE_ANSWER};
 use crate::model::header::Resolution;
 use crate::model::probe::{LISTING_MARKS, LISTING_PIXELS};
-use crate::model::{long, sheet, word};
+use crate::model::{long, word};
 use crate::peer::Peer;
 use crate::report::{self, fault, Fault, Found, Needed, Outcome, Plan};
 use crate::rng::Rng;
@@ -206,11 +205,6 @@ fn wrong(text: impl Into<String>, dumps: Vec<(&'static str, Vec<u8>)>) -> Fault 
     fault(text.into(), dumps)
 }
 
-/// The numbers of an answer.
-fn numbers(answer: &[u8], count: usize) -> Vec<u64> {
-    (0..count).map(|i| long(answer, 4 * i)).collect()
-}
-
 /// A line such as `refused 13` or `type 9 blocks 2 pixels 8 ...`, whose numbers are the answer's.
 fn known_header(result: u32, answer: &[u8], first: &str) -> Result<(), Fault> {
     let told: Vec<u64> = first.split(' ').filter_map(|word| word.parse().ok()).collect();
@@ -358,7 +352,7 @@ fn check_pair(bench: &Bench, rng: &mut Rng, pair: &Pair, reached: &mut Vec<Strin
         reached_by(&second, &pair.second, reached);
         reached.extend(pair.effects());
     }
-    let told = demand_3(pair, &first, &second, lend);
+    let told = demand_3::holds(pair, &first, &second, lend);
     found.and(also).after(|| {
         told.map_err(|text| {
             let dumps = vec![
@@ -372,91 +366,6 @@ fn check_pair(bench: &Bench, rng: &mut Rng, pair: &Pair, reached: &mut Vec<Strin
             wrong(format!("demand 3: {text}"), dumps)
         })
     })
-}
-
-/// The clauses of demand 3, of the bytes that the two calls left.
-fn demand_3(pair: &Pair, first: &Read, second: &Read, lend: Lend) -> Result<(), String> {
-    if first.result > 1 {
-        return Err(format!("the first call is refused with {}", first.result));
-    }
-    let (ppl, nol) = (long(&pair.first, 184) as usize, long(&pair.first, 188) as usize);
-    let short = lend.pixels < 2 * ppl * nol || lend.marks < nol || lend.answer < RASTER_ANSWER;
-    match (second.result > 1, short) {
-        (true, true) => return Ok(()),
-        (true, false) => {
-            return Err(format!("refused with {}, but no buffer is too short", second.result))
-        }
-        (false, true) => return Err("a buffer is too short, and it is not refused".to_string()),
-        (false, false) => {}
-    }
-    let [old, new] = [first, second].map(|read| numbers(read.answer.lent(), 2));
-    if old[1] != new[1] {
-        return Err(format!("the ends are {} and {}", old[1], new[1]));
-    }
-    for (name, read) in [("first", first), ("second", second)] {
-        let good = read.marks.lent()[..nol].iter().filter(|&&mark| mark == 0).count();
-        if numbers(read.answer.lent(), 1) != [good as u64] {
-            return Err(format!("{name} call: the good lines are not those marked 0"));
-        }
-        if read.result != u32::from(good < nol) {
-            return Err(format!("{name} call: answer {} with {good} good lines", read.result));
-        }
-    }
-    let kind = word(&pair.first, 4);
-    let starts = line_starts(&pair.first, nol);
-    for (i, same) in pair.same.iter().enumerate() {
-        let [old, new] = [first, second].map(|read| {
-            (read.marks.lent()[i], &read.pixels.lent()[2 * ppl * i..2 * ppl * (i + 1)])
-        });
-        let k = i + 1;
-        if *same && old != new {
-            return Err(format!("line {k} differs, but its body does not"));
-        }
-        for (file, (mark, row)) in [(&pair.first, old), (&pair.second, new)] {
-            if mark > 0 && row.iter().any(|&byte| byte > 0) {
-                return Err(format!("line {k} is marked {mark} and not blank"));
-            }
-            let right = match starts.get(i) {
-                None => mark == 9,
-                Some(&at) => {
-                    // A line is given no byte but its own.
-                    let (wanted, pixels) = sheet::line_alone(own_bytes(file, at), kind, ppl, k);
-                    mark == wanted && row.chunks(2).map(|p| word(p, 0)).eq(pixels)
-                }
-            };
-            if !right {
-                return Err(format!("line {k} is not read by its own header and body"));
-            }
-        }
-    }
-    Ok(())
-}
-
-/// Where the lines begin that the chain reaches.
-fn line_starts(file: &[u8], nol: usize) -> Vec<usize> {
-    let mut starts = Vec::new();
-    let mut at = 2 * (word(file, 2) as usize + 2);
-    while starts.len() < nol {
-        starts.push(at);
-        let Some(header) = file.get(at..at + 8) else {
-            break;
-        };
-        let follow = word(header, 2) as usize;
-        at += 4 + 2 * follow;
-        if header[1] != 0x59 || follow < 2 || at > file.len() {
-            break;
-        }
-    }
-    starts
-}
-
-/// The header and body of a line, as far as they lie in the file.
-fn own_bytes(file: &[u8], at: usize) -> &[u8] {
-    let rest = &file[at.min(file.len())..];
-    match rest.len() {
-        0..=7 => rest,
-        length => &rest[..(4 + 2 * word(rest, 2) as usize).clamp(8, length)],
-    }
 }
 
 /// Writes a picture. One that is written is read back, with its header.
