@@ -21,9 +21,10 @@ pub fn holds(pair: &Pair, first: &Read, second: &Read, lend: Lend) -> Result<(),
         (false, true) => return Err("a buffer is too short, and it is not refused".to_string()),
         (false, false) => {}
     }
-    let [old, new] = [first, second].map(|read| numbers(read.answer.lent(), 2));
-    if old[1] != new[1] {
-        return Err(format!("the ends are {} and {}", old[1], new[1]));
+    let (starts, end) = chain(&pair.first, nol);
+    let ends = [first, second].map(|read| numbers(read.answer.lent(), 2)[1]);
+    if ends != [end as u64; 2] {
+        return Err(format!("the ends are {} and {}, not {end}", ends[0], ends[1]));
     }
     for (name, read) in [("first", first), ("second", second)] {
         let good = read.marks.lent()[..nol].iter().filter(|&&mark| mark == 0).count();
@@ -35,7 +36,6 @@ pub fn holds(pair: &Pair, first: &Read, second: &Read, lend: Lend) -> Result<(),
         }
     }
     let kind = word(&pair.first, 4);
-    let starts = line_starts(&pair.first, nol);
     for (i, same) in pair.same.iter().enumerate() {
         let [old, new] = [first, second].map(|read| {
             (read.marks.lent()[i], &read.pixels.lent()[2 * ppl * i..2 * ppl * (i + 1)])
@@ -64,22 +64,24 @@ pub fn holds(pair: &Pair, first: &Read, second: &Read, lend: Lend) -> Result<(),
     Ok(())
 }
 
-/// Where the lines begin that the chain reaches.
-fn line_starts(file: &[u8], nol: usize) -> Vec<usize> {
+/// Where the lines begin that the chain reaches, and the end: the byte after the last line, or the
+/// first byte of the lost one.
+fn chain(file: &[u8], nol: usize) -> (Vec<usize>, usize) {
     let mut starts = Vec::new();
     let mut at = 2 * (word(file, 2) as usize + 2);
     while starts.len() < nol {
         starts.push(at);
         let Some(header) = file.get(at..at + 8) else {
-            break;
+            return (starts, at);
         };
         let follow = word(header, 2) as usize;
-        at += 4 + 2 * follow;
-        if header[1] != 0x59 || follow < 2 || at > file.len() {
-            break;
+        let next = at + 4 + 2 * follow;
+        if header[1] != 0x59 || follow < 2 || next > file.len() {
+            return (starts, at);
         }
+        at = next;
     }
-    starts
+    (starts, at)
 }
 
 /// The header and body of a line, as far as they lie in the file.

@@ -52,11 +52,11 @@ pub const OF_PAIRS: [(&str, &str); 9] = [
     ("damage-spreads", "not read by its own header and body"),
     ("end-by-total", "the ends are"),
     ("every-sheet-good", "answer 0 with"),
-    ("good-and-end-exchanged", "the good lines are not those marked 0"),
+    ("every-line-counted", "the good lines are not those marked 0"),
     ("odd-slices-refused", "the first call is refused with 23"),
 ];
 
-pub const DEFECTS: [Defect; 63] = [
+pub const DEFECTS: [Defect; 64] = [
     defect(RIGHT, "", Change::None),
     // 29 after another number, too early, too late.
     defect(
@@ -269,6 +269,17 @@ pub const DEFECTS: [Defect; 63] = [
             let result = c::raster(file, pixels, marks, answer);
             if result == 1 {
                 answer.copy_from_slice(&before);
+            }
+            result
+        }),
+    ),
+    defect(
+        "every-line-counted",
+        "ingr_raster: answer: byte 0 of ",
+        Change::Raster(|file, pixels, marks, answer| {
+            let result = c::raster(file, pixels, marks, answer);
+            if result == 1 {
+                c::put_numbers(&mut answer[..4], &[long(file, 188)]);
             }
             result
         }),
