@@ -1,4 +1,4 @@
-//! Links the one program that calls the C library with it.
+//! Tells where the C library is, for the one program that is linked with it.
 
 use std::env;
 use std::path::PathBuf;
@@ -10,11 +10,8 @@ fn main() {
     }
     println!("cargo::rerun-if-env-changed=INGR_LIB_DIR");
     let beside = || PathBuf::from(concat!(env!("CARGO_MANIFEST_DIR"), "/../../target/c"));
-    let library = env::var_os("INGR_LIB_DIR").map_or_else(beside, PathBuf::from).join("libingr.a");
-    // One that was built anew is linked anew.
-    println!("cargo::rerun-if-changed={}", library.display());
-    // It may bring what this program's own standard library has too, such as a panic handler.
-    // The first of two is taken, and arguments given so come last.
-    println!("cargo::rustc-link-arg-bin=c_calls={}", library.display());
-    println!("cargo::rustc-link-arg-bin=c_calls=-Wl,--allow-multiple-definition");
+    let dir = env::var_os("INGR_LIB_DIR").map_or_else(beside, PathBuf::from);
+    println!("cargo::rustc-link-search=native={}", dir.display());
+    // A library that was built anew is linked anew.
+    println!("cargo::rerun-if-changed={}", dir.join("libingr.a").display());
 }

@@ -3,6 +3,7 @@
 use second::Calls;
 use std::process::ExitCode;
 
+#[link(name = "ingr", kind = "static")]
 extern "C" {
     fn ingr_header(file: *const u8, file_len: usize, answer: *mut u8, answer_len: usize) -> u32;
     fn ingr_raster(
