@@ -5,11 +5,11 @@ use crate::run::Program;
 use std::path::PathBuf;
 use std::time::Duration;
 
-/// How long a program under test may take, in milliseconds.
+/// How long a program or a call under test may take, in milliseconds.
 const PATIENCE: u64 = 20_000;
 const SEED: u64 = 1989;
 /// Flags without a value.
-const SWITCHES: [&str; 1] = ["until-fault"];
+const SWITCHES: [&str; 2] = ["until-fault", "small"];
 
 pub struct Args {
     pairs: Vec<(String, String)>,
@@ -31,8 +31,12 @@ impl Args {
         Ok(Args { pairs })
     }
 
-    fn get(&self, name: &str) -> Option<&str> {
+    pub fn get(&self, name: &str) -> Option<&str> {
         self.pairs.iter().rev().find(|(key, _)| key == name).map(|(_, value)| value.as_str())
+    }
+
+    pub fn is_set(&self, name: &str) -> bool {
+        self.get(name).is_some()
     }
 
     pub fn program(&self, name: &str) -> Result<Program, String> {
@@ -44,8 +48,7 @@ impl Args {
         // kept, as a program may look at the name it is called by.
         let path =
             std::path::absolute(&path).map_err(|error| format!("{}: {error}", path.display()))?;
-        let patience = Duration::from_millis(self.number("patience", PATIENCE)?);
-        Ok(Program { path, patience })
+        Ok(Program { path, patience: self.patience()? })
     }
 
     /// The sheets of the other program; by default those that stand beside this one.
@@ -63,8 +66,13 @@ impl Args {
             count: count as usize,
             seed: self.number("seed", SEED)?,
             first: self.number("first", u64::MAX)? as usize,
-            until_fault: self.get("until-fault").is_some(),
+            until_fault: self.is_set("until-fault"),
+            patience: self.patience()?,
         })
+    }
+
+    fn patience(&self) -> Result<Duration, String> {
+        Ok(Duration::from_millis(self.number("patience", PATIENCE)?))
     }
 
     fn number(&self, name: &str, default: u64) -> Result<u64, String> {

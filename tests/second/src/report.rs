@@ -1,16 +1,18 @@
-//! Runs the cases of a mode on two threads and tells what came of them.
+//! Runs the cases of a mode and tells what came of them.
 
 use crate::run::{Program, Run};
 use std::collections::BTreeMap;
-use std::fmt::Write as _;
+use std::fmt::{Arguments, Write as _};
 use std::fs;
 use std::io;
+use std::ops::Range;
 use std::panic::{catch_unwind, AssertUnwindSafe};
 use std::path::{Path, PathBuf};
 use std::process::ExitCode;
 use std::sync::atomic::{AtomicUsize, Ordering};
-use std::sync::Mutex;
+use std::sync::{Arc, Mutex};
 use std::thread;
+use std::time::Duration;
 
 const WORKERS: usize = 2;
 /// Mismatches that are described in full.
@@ -27,6 +29,8 @@ pub struct Plan {
     pub first: usize,
     /// Ends the mode at the first fault.
     pub until_fault: bool,
+    /// A case of `walk` that takes longer ends all.
+    pub patience: Duration,
 }
 
 /// What the cases of a mode must have reached: a generator that no longer gets there would
@@ -117,6 +121,50 @@ pub fn judge(program: &Program, input: &[u8], wanted: &[u8], run: &Run) -> Found
     }))
 }
 
+/// A buffer of a call with its guards: what it should hold after the call, and what it holds.
+pub struct Held<'a> {
+    pub name: &'static str,
+    pub wanted: &'a [u8],
+    pub found: &'a [u8],
+    /// Where the bytes lie that the call was lent.
+    pub lent: Range<usize>,
+}
+
+/// Compares a call: its result, wanted first, and all of its buffers, to the byte.
+pub fn judge_call(call: &str, given: Arguments, results: [u32; 2], buffers: &[Held]) -> Found {
+    let [wanted, result] = results;
+    let wrong = buffers.iter().find(|held| held.wanted != held.found);
+    let what = match wrong {
+        _ if wanted != result => format!("result {result}, {wanted} wanted"),
+        Some(held) => place_of_difference(held),
+        None => return Found(None),
+    };
+    let mut dumps: Vec<(&'static str, Vec<u8>)> =
+        buffers.iter().map(|held| (held.name, held.found[held.lent.clone()].to_vec())).collect();
+    if let Some(held) = wrong {
+        dumps.push(("wanted", held.wanted[held.lent.clone()].to_vec()));
+    }
+    Found(Some(fault(format!("{call}: {what} {given}"), dumps)))
+}
+
+/// The first byte that differs, lent or of a guard.
+fn place_of_difference(held: &Held) -> String {
+    let at = held.wanted.iter().zip(held.found).take_while(|(a, b)| a == b).count();
+    let Range { start, end } = held.lent;
+    let name = held.name;
+    let place = match at {
+        _ if at < start => format!("{name}: guard, {} before its start,", start - at),
+        _ if at >= end => format!("{name}: guard, {} past its end,", at - end),
+        _ => format!("{name}: byte {} of {}", at - start, end - start),
+    };
+    format!("{place} is {}, {} wanted", held.found[at], held.wanted[at])
+}
+
+/// A case that is wrong before anything was compared.
+pub fn failed(fault: Fault) -> Found {
+    Found(Some(fault))
+}
+
 /// A fault found without a program, or in what several of them printed.
 pub fn fault(text: String, dumps: Vec<(&'static str, Vec<u8>)>) -> Fault {
     Fault { text, dumps, hung: false }
@@ -143,6 +191,87 @@ fn excerpt(bytes: &[u8]) -> String {
     format!("{}{dots}", cut.escape_ascii())
 }
 
+/// What came of the cases so far. Single cases are not kept: there may be millions.
+#[derive(Default)]
+struct Tally {
+    families: BTreeMap<&'static str, usize>,
+    reached: BTreeMap<String, usize>,
+    passed: usize,
+    failed: usize,
+    /// The first faults, with their families.
+    faults: BTreeMap<usize, (&'static str, Fault)>,
+    /// Why the mode ends early.
+    trouble: Option<String>,
+}
+
+impl Tally {
+    fn add(&mut self, i: usize, outcome: Outcome) {
+        *self.families.entry(outcome.family).or_default() += 1;
+        for what in outcome.reached {
+            *self.reached.entry(what).or_default() += 1;
+        }
+        let Some(fault) = outcome.found.0 else {
+            self.passed += 1;
+            return;
+        };
+        self.failed += 1;
+        self.faults.insert(i, (outcome.family, fault));
+        if self.faults.len() > SHOWN {
+            self.faults.pop_last();
+        }
+    }
+
+    /// Prints all, and the counts last.
+    fn tell(&self, mode: &str, needed: &Needed) -> ExitCode {
+        self.describe(mode);
+        let failed = match &self.trouble {
+            Some(reason) => {
+                println!("{mode}: ended early, {reason}");
+                self.failed.max(1)
+            }
+            None => self.failed + self.unreached(mode, needed),
+        };
+        println!("{mode}: {} passed, {failed} failed", self.passed);
+        ExitCode::from(u8::from(failed > 0))
+    }
+
+    /// Describes the first faults.
+    fn describe(&self, mode: &str) {
+        let dir = std::env::temp_dir().join(format!("second-{mode}-{}", std::process::id()));
+        for (i, (family, fault)) in &self.faults {
+            println!("case {i} ({family}): {}", fault.text);
+            match dump(&dir, *i, fault) {
+                Ok(path) => println!("  see {}", path.display()),
+                Err(error) => println!("  no dump: {error}"),
+            }
+        }
+    }
+
+    /// Prints what was reached, and counts what should have been and was not.
+    fn unreached(&self, mode: &str, needed: &Needed) -> usize {
+        for (family, count) in &self.families {
+            println!("{mode}: {count:6} {family}");
+        }
+        let counts: Vec<String> =
+            self.reached.iter().map(|(what, n)| format!("{what} {n}")).collect();
+        println!("{mode}: reached {}", counts.join(", "));
+        let mut missed = Vec::new();
+        if self.families.is_empty() {
+            missed.push("no case was run".to_string());
+        }
+        for what in needed.reached.iter().filter(|what| !self.reached.contains_key(*what)) {
+            missed.push(format!("no case reached {what}"));
+        }
+        for family in needed.families.iter().filter(|family| !self.families.contains_key(*family)) {
+            missed.push(format!("no case is one of: {family}"));
+        }
+        for text in &missed {
+            println!("{mode}: {text}");
+        }
+        missed.len()
+    }
+}
+
 /// Runs cases 0 to `total - 1`, as far as the plan goes, and prints what came of them.
 pub fn drive<F>(mode: &str, plan: &Plan, total: usize, needed: &Needed, case: F) -> ExitCode
 where
@@ -150,45 +279,74 @@ where
 {
     let total = total.min(plan.first);
     let next = AtomicUsize::new(0);
-    let outcomes: Mutex<BTreeMap<usize, Outcome>> = Mutex::new(BTreeMap::new());
-    // Why the mode ends early.
-    let trouble: Mutex<Option<String>> = Mutex::new(None);
+    let tally: Mutex<Tally> = Mutex::new(Tally::default());
     let hung = AtomicUsize::new(0);
     thread::scope(|scope| {
         for _ in 0..WORKERS {
             scope.spawn(|| loop {
                 let i = next.fetch_add(1, Ordering::Relaxed);
-                if i >= total || trouble.lock().expect("no worker panics").is_some() {
+                if i >= total || tally.lock().expect("no worker panics").trouble.is_some() {
                     break;
                 }
-                let reason = match catch_unwind(AssertUnwindSafe(|| case(i))) {
+                let done = catch_unwind(AssertUnwindSafe(|| case(i)));
+                let mut tally = tally.lock().expect("no worker panics");
+                let reason = match done {
                     Err(_) => Some(format!("case {i} panics")),
                     Ok(Err(error)) => Some(format!("a program cannot be run: {error}")),
                     Ok(Ok(outcome)) => {
                         let reason = ends(plan, &outcome, &hung);
-                        outcomes.lock().expect("no worker panics").insert(i, outcome);
+                        tally.add(i, outcome);
                         reason
                     }
                 };
                 if reason.is_some() {
-                    *trouble.lock().expect("no worker panics") = reason;
+                    tally.trouble = reason;
                 }
             });
         }
     });
-    let outcomes = outcomes.into_inner().expect("no worker panics");
-    let trouble = trouble.into_inner().expect("no worker panics");
-    let failed = describe(mode, &outcomes);
-    let failed = match trouble {
-        Some(reason) => {
-            println!("{mode}: ended early, {reason}");
-            failed.max(1)
+    tally.into_inner().expect("no worker panics").tell(mode, needed)
+}
+
+/// Runs one case after the other, until there are no more or the plan ends, and prints what came
+/// of them.
+pub fn walk(
+    mode: &str,
+    plan: &Plan,
+    needed: &Needed,
+    mut case: impl FnMut(usize) -> Option<Outcome>,
+) -> ExitCode {
+    let mut tally = Tally::default();
+    let now = Arc::new(AtomicUsize::new(0));
+    watch(mode, plan.patience, Arc::clone(&now));
+    for i in 0..plan.first {
+        now.store(i, Ordering::Relaxed);
+        match catch_unwind(AssertUnwindSafe(|| case(i))) {
+            Err(_) => tally.trouble = Some(format!("case {i} panics")),
+            Ok(None) => break,
+            Ok(Some(outcome)) => {
+                tally.trouble = ends(plan, &outcome, &AtomicUsize::new(0));
+                tally.add(i, outcome);
+            }
         }
-        None => failed + unreached(mode, &outcomes, needed),
-    };
-    let passed = outcomes.values().filter(|outcome| outcome.found.is_right()).count();
-    println!("{mode}: {passed} passed, {failed} failed");
-    ExitCode::from(u8::from(failed > 0))
+        if tally.trouble.is_some() {
+            break;
+        }
+    }
+    tally.tell(mode, needed)
+}
+
+/// Ends the program where a case runs on: a call cannot be stopped from outside.
+fn watch(mode: &str, patience: Duration, now: Arc<AtomicUsize>) {
+    let mode = mode.to_string();
+    thread::spawn(move || loop {
+        let before = now.load(Ordering::Relaxed);
+        thread::sleep(patience);
+        if now.load(Ordering::Relaxed) == before {
+            println!("case {before}: runs on\n{mode}: {before} passed, 1 failed");
+            std::process::exit(1);
+        }
+    });
 }
 
 /// Why a mode ends with this case, if it does.
@@ -199,57 +357,6 @@ fn ends(plan: &Plan, outcome: &Outcome, hung: &AtomicUsize) -> Option<String> {
     }
     (fault.hung && hung.fetch_add(1, Ordering::Relaxed) + 1 >= HUNG)
         .then(|| "programs run on".to_string())
-}
-
-/// Describes the first faults, and counts them all.
-fn describe(mode: &str, outcomes: &BTreeMap<usize, Outcome>) -> usize {
-    let dir = std::env::temp_dir().join(format!("second-{mode}-{}", std::process::id()));
-    let mut failed = 0;
-    for (i, outcome) in outcomes {
-        let Some(fault) = &outcome.found.0 else {
-            continue;
-        };
-        failed += 1;
-        if failed <= SHOWN {
-            println!("case {i} ({}): {}", outcome.family, fault.text);
-            match dump(&dir, *i, fault) {
-                Ok(path) => println!("  see {}", path.display()),
-                Err(error) => println!("  no dump: {error}"),
-            }
-        }
-    }
-    failed
-}
-
-/// Prints what was reached, and counts what should have been and was not.
-fn unreached(mode: &str, outcomes: &BTreeMap<usize, Outcome>, needed: &Needed) -> usize {
-    let mut families: BTreeMap<&str, usize> = BTreeMap::new();
-    let mut reached: BTreeMap<&str, usize> = BTreeMap::new();
-    for outcome in outcomes.values() {
-        *families.entry(outcome.family).or_default() += 1;
-        for what in &outcome.reached {
-            *reached.entry(what).or_default() += 1;
-        }
-    }
-    for (family, count) in &families {
-        println!("{mode}: {count:6} {family}");
-    }
-    let counts: Vec<String> = reached.iter().map(|(what, n)| format!("{what} {n}")).collect();
-    println!("{mode}: reached {}", counts.join(", "));
-    let mut missed = Vec::new();
-    if outcomes.is_empty() {
-        missed.push("no case was run".to_string());
-    }
-    for what in needed.reached.iter().filter(|what| !reached.contains_key(what.as_str())) {
-        missed.push(format!("no case reached {what}"));
-    }
-    for family in needed.families.iter().filter(|family| !families.contains_key(*family)) {
-        missed.push(format!("no case is one of: {family}"));
-    }
-    for text in &missed {
-        println!("{mode}: {text}");
-    }
-    missed.len()
 }
 
 /// Writes a hex dump to read, and each part raw to run again.

@@ -1,7 +1,10 @@
 //! Makers of inputs: single ones (`header`, `sheet`, `picture`, `turning`) and those of a mode.
 
+pub mod calls;
 pub mod header;
 pub mod headers;
+pub mod large;
+pub mod pairs;
 pub mod picture;
 pub mod pictures;
 pub mod sheet;

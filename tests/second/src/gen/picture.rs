@@ -75,11 +75,15 @@ impl Picture {
         })
     }
 
-    /// Gives as much room as the file needs, and `more` bytes.
+    /// Gives as much room as the file needs, and `more` bytes, as far as the program has it.
     pub fn fit(&mut self, more: i64) {
-        self.room = crate::model::probe::WRITE_ROOM as u32;
+        self.fit_within(more, crate::model::probe::WRITE_ROOM as u32);
+    }
+
+    pub fn fit_within(&mut self, more: i64, most: u32) {
+        self.room = most;
         let length = self.written().map_or(1_200, |file| file.len());
-        self.room = (length as i64 + more).clamp(0, i64::from(self.room)) as u32;
+        self.room = (length as i64 + more).clamp(0, i64::from(most)) as u32;
     }
 }
 
@@ -92,6 +96,22 @@ pub fn some_picture(rng: &mut Rng) -> Picture {
         2 => (rng.range(1_500, 70_000), rng.range(1, 2)),
         _ => (rng.range(1, 50), rng.range(1, 10)),
     };
+    picture_of(rng, kind, ppl, nol)
+}
+
+/// The same with few wide ones, or none.
+pub fn some_small_picture(rng: &mut Rng, no_wide: bool) -> Picture {
+    let kind = rng.pick(&TYPES);
+    let (ppl, nol) = match rng.below(600) {
+        0 if !no_wide => (rng.range(1_500, 70_000), rng.range(1, 2)),
+        0..=7 => (rng.range(1, 1500), rng.range(1, 5)),
+        8..=15 => (rng.range(1, 8), rng.range(100, 300)),
+        _ => (rng.range(1, 50), rng.range(1, 10)),
+    };
+    picture_of(rng, kind, ppl, nol)
+}
+
+fn picture_of(rng: &mut Rng, kind: u16, ppl: usize, nol: usize) -> Picture {
     let mut pixels: Vec<u16> = (0..nol).flat_map(|_| some_row(rng, kind, ppl)).collect();
     if rng.one_in(4) {
         // More than the picture needs, and nothing the type could hold.

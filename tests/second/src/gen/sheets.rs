@@ -393,12 +393,12 @@ fn raster_start(file: &[u8]) -> usize {
     2 * (follow + 2)
 }
 
-fn cut_in_raster(rng: &mut Rng, file: &[u8]) -> usize {
+pub fn cut_in_raster(rng: &mut Rng, file: &[u8]) -> usize {
     rng.range(raster_start(file).min(file.len()), file.len())
 }
 
 /// Changes bytes of a right sheet, mostly of its raster data.
-fn change(rng: &mut Rng, file: &mut [u8]) {
+pub fn change(rng: &mut Rng, file: &mut [u8]) {
     let start = raster_start(file);
     for _ in 0..rng.pick(&[1, 1, 2, 5, 20]) {
         let at = if start < file.len() && !rng.one_in(20) {

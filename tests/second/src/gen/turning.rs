@@ -32,8 +32,20 @@ impl Turning {
         sides: (usize, usize),
         spare: [usize; 2],
     ) -> Turning {
+        Turning::within(rng, way, slo, sides, spare, TURN_PIXELS)
+    }
+
+    /// The same under another limit. From 65,537 pixels on some are alike.
+    pub fn within(
+        rng: &mut Rng,
+        way: u32,
+        slo: u32,
+        sides: (usize, usize),
+        spare: [usize; 2],
+        most: usize,
+    ) -> Turning {
         let (ppl, nol) = sides;
-        let [count, room] = spare.map(|more| (ppl * nol + more).min(TURN_PIXELS));
+        let [count, room] = spare.map(|more| (ppl * nol + more).min(most));
         // An odd step meets every 16-bit number before the first comes again.
         let (first, step) = (rng.word(), rng.word() | 1);
         let nth = |i: usize| first.wrapping_add(step.wrapping_mul(i as u16));

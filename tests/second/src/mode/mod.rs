@@ -1,5 +1,6 @@
 //! The modes: each makes its inputs, runs the programs over them and compares.
 
+pub mod calls;
 pub mod header;
 pub mod pairs;
 pub mod selftest;

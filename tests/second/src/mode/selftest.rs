@@ -1,7 +1,9 @@
 //! Mode `selftest`: every mode against the stand-ins. A right one must pass, each one with a
 //! defect must fail, and so must a mode that is given nothing to compare.
 
+use crate::calls::stand_in;
 use crate::fake;
+use crate::gen::calls::PAIRS;
 use crate::peer;
 use std::fs::{self, Permissions};
 use std::io;
@@ -13,6 +15,9 @@ use std::thread;
 
 /// Milliseconds that a stand-in is given which runs on.
 const SHORT_PATIENCE: &str = "300";
+
+/// Calls that the right functions must pass; some three quarters of them are always made.
+const CALLS: &str = "20000";
 
 const RUNS_ON: &str = "runs on and was stopped";
 
@@ -95,6 +100,7 @@ impl Bench {
         }
         trials.extend(self.wrong_ends()?);
         trials.extend(self.nothing_to_compare()?);
+        trials.extend(self.calls());
         let mut passed = 0;
         for (trial, found) in trials.iter().zip(self.call_all(&trials)) {
             let (mode, with) = (trial.mode, &trial.with);
@@ -211,6 +217,50 @@ impl Bench {
         }
         trials.extend(self.peers_missing()?);
         Ok(trials)
+    }
+
+    /// The C functions: right ones, wrong ones, each told of by what it did, and nothing to
+    /// compare.
+    fn calls(&self) -> Vec<Trial> {
+        let trial = |with: &str, name: &str, more: &[&str], wanted| {
+            let words = [&["--stand-in", name], more].concat();
+            let words = words.iter().map(|word| word.to_string()).collect();
+            Trial { mode: "calls", with: with.to_string(), words, wanted }
+        };
+        let right = stand_in::RIGHT;
+        let mut trials = vec![
+            trial(right, right, &["--count", CALLS], Wanted::Passes),
+            trial("right, small", right, &["--small"], Wanted::Passes),
+        ];
+        for defect in stand_in::DEFECTS.iter().filter(|defect| defect.name != right) {
+            let wanted = tells(&["case ", defect.told]);
+            let words = ["--until-fault", "--patience", SHORT_PATIENCE];
+            let words = if defect.told == "runs on" { &words } else { &words[..1] };
+            trials.push(trial(defect.name, defect.name, words, wanted));
+        }
+        // Demand 3 by itself, whatever the model says.
+        for (name, told) in stand_in::OF_PAIRS {
+            let words = ["--family", PAIRS, "--count", "300"];
+            trials.push(trial(
+                &format!("{name}, in pairs"),
+                name,
+                &words,
+                tells(&["demand 3", told]),
+            ));
+        }
+        trials.push(trial("pairs", right, &["--family", PAIRS, "--count", "300"], Wanted::Passes));
+        let told = ["no case was run", "no case reached", "no case is one of"];
+        let missing = self.path("missing");
+        for (with, more, told) in [
+            ("a count of 0", ["--count", "0"], &["compare nothing"][..]),
+            ("none of its cases", ["--first", "0"], &told),
+            ("two of its cases", ["--first", "2"], &told[1..]),
+            ("peer sheets in missing", ["--peer", &missing], &["bilevel.rle"]),
+        ] {
+            trials.push(trial(with, right, &more, tells(told)));
+        }
+        trials.push(trial("no table", "no-such-table", &[], tells(&["no-such-table"])));
+        trials
     }
 
     /// Modes that lack sheets of the other program.

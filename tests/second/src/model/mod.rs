@@ -1,6 +1,7 @@
 //! The format by its papers: reader of headers, colors and sheets, writer, and turning.
 //! Plain and slow on purpose; every number is 64 bits wide once it is out of its field.
 
+pub mod c;
 pub mod header;
 pub mod probe;
 pub mod sheet;

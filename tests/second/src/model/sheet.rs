@@ -70,6 +70,14 @@ pub fn read(file: &[u8], pixels: u64, marks: u64) -> Result<Sheet, Rejection> {
     Ok(Sheet { header, lines, end: at })
 }
 
+/// Line `k` with its header, given nothing but its own bytes, as far as they lie in the file.
+pub fn line_alone(own: &[u8], kind: u64, ppl: usize, k: usize) -> (u8, Vec<u64>) {
+    match headed_line(own, 0, kind, ppl as u64, k as u64).0 {
+        Ok(row) => (0, row),
+        Err(mark) => (mark, vec![0; ppl]),
+    }
+}
+
 /// A line with its four words of header before it.
 fn headed_line(
     file: &[u8],

@@ -1,0 +1,853 @@
+//! Stand-ins for the C functions, played by the model, right or with one defect. They show that
+//! the right ones pass and that each wrong one is found; nothing more, since they are the model.
+
+use super::Calls;
+use crate::model::c::{
+    self, Turn, Write, COLOR_ANSWER, HEADER_ANSWER, RASTER_ANSWER, SHORT_ANSWER, WRITE_ANSWER,
+};
+use crate::model::{header, long, turn};
+use std::slice::{from_raw_parts, from_raw_parts_mut};
+use std::sync::{Mutex, OnceLock};
+use std::time::Duration;
+
+type Header = fn(&[u8], &mut [u8]) -> u32;
+type Color = fn(&[u8], u32, &mut [u8]) -> u32;
+type Raster = fn(&[u8], &mut [u8], &mut [u8], &mut [u8]) -> u32;
+type Turning = fn(&Turn, &mut [u16]) -> u32;
+type Writing = fn(&Write, &mut [u8], &mut [u8]) -> u32;
+
+pub struct Defect {
+    pub name: &'static str,
+    /// What must be told of it.
+    pub told: &'static str,
+    change: Change,
+}
+
+/// What a defect does.
+enum Change {
+    None,
+    /// In the place of a right function.
+    Header(Header),
+    Color(Color),
+    Raster(Raster),
+    Turn(Turning),
+    Write(Writing),
+    /// After a right function, to one byte of a buffer of this name or of its guards, told by
+    /// the length of the buffer.
+    Touch(&'static str, fn(isize) -> Option<isize>),
+}
+
+const fn defect(name: &'static str, told: &'static str, change: Change) -> Defect {
+    Defect { name, told, change }
+}
+
+pub const RIGHT: &str = "right";
+
+/// Those whose pairs must show it by themselves, and what is told.
+pub const OF_PAIRS: [(&str, &str); 9] = [
+    ("refused-row-unpainted", "and not blank"),
+    ("unpainted-after-lost", "differs, but its body does not"),
+    ("last-sheet-under-damage", "and not blank"),
+    ("pixels-high-byte-first", "not read by its own header and body"),
+    ("damage-spreads", "not read by its own header and body"),
+    ("end-by-total", "the ends are"),
+    ("every-sheet-good", "answer 0 with"),
+    ("every-line-counted", "the good lines are not those marked 0"),
+    ("odd-slices-refused", "the first call is refused with 23"),
+];
+
+pub const DEFECTS: [Defect; 64] = [
+    defect(RIGHT, "", Change::None),
+    // 29 after another number, too early, too late.
+    defect(
+        "header-29-late",
+        "ingr_header: result 11, 29 wanted",
+        Change::Header(|file, answer| late([0; HEADER_ANSWER], answer, |to| c::header(file, to))),
+    ),
+    defect(
+        "color-29-late",
+        "ingr_color: result 25, 29 wanted",
+        Change::Color(|file, value, answer| {
+            late([0; COLOR_ANSWER], answer, |to| c::color(file, value, to))
+        }),
+    ),
+    defect(
+        "raster-29-late",
+        "ingr_raster: result 23, 29 wanted",
+        Change::Raster(|file, pixels, marks, answer| {
+            if answer.len() < RASTER_ANSWER {
+                let number = c::raster(file, &mut [], &mut [], &mut [0; RASTER_ANSWER]);
+                if number == 23 {
+                    return number;
+                }
+            }
+            c::raster(file, pixels, marks, answer)
+        }),
+    ),
+    defect(
+        "write-29-late",
+        "ingr_write: result 16, 29 wanted",
+        Change::Write(|given, out, answer| {
+            match c::write(given, &mut [], &mut [0; WRITE_ANSWER]) {
+                28 => c::write(given, out, answer),
+                number => number,
+            }
+        }),
+    ),
+    defect(
+        "header-39-taken",
+        "ingr_header: result 0, 29 wanted",
+        Change::Header(|file, answer| {
+            one_less([0; HEADER_ANSWER], answer, |to| c::header(file, to))
+        }),
+    ),
+    defect(
+        "color-11-taken",
+        "ingr_color: result 0, 29 wanted",
+        Change::Color(|file, value, answer| {
+            one_less([0; COLOR_ANSWER], answer, |to| c::color(file, value, to))
+        }),
+    ),
+    defect(
+        "raster-7-taken",
+        "ingr_raster: result 0, 29 wanted",
+        Change::Raster(|file, pixels, marks, answer| {
+            one_less([0; RASTER_ANSWER], answer, |to| c::raster(file, pixels, marks, to))
+        }),
+    ),
+    defect(
+        "write-3-taken",
+        "ingr_write: result 16, 29 wanted",
+        Change::Write(|given, out, answer| {
+            one_less([0; WRITE_ANSWER], answer, |to| c::write(given, out, to))
+        }),
+    ),
+    defect(
+        "header-40-refused",
+        "ingr_header: result 29, 0 wanted",
+        Change::Header(|file, answer| match answer.len() {
+            HEADER_ANSWER => SHORT_ANSWER,
+            _ => c::header(file, answer),
+        }),
+    ),
+    defect(
+        "color-12-refused",
+        "ingr_color: result 29, ",
+        Change::Color(|file, value, answer| match answer.len() {
+            COLOR_ANSWER => SHORT_ANSWER,
+            _ => c::color(file, value, answer),
+        }),
+    ),
+    defect(
+        "raster-8-refused",
+        "ingr_raster: result 29, ",
+        Change::Raster(|file, pixels, marks, answer| match answer.len() {
+            RASTER_ANSWER => SHORT_ANSWER,
+            _ => c::raster(file, pixels, marks, answer),
+        }),
+    ),
+    defect(
+        "write-4-refused",
+        "ingr_write: result 29, ",
+        Change::Write(|given, out, answer| match answer.len() {
+            WRITE_ANSWER => SHORT_ANSWER,
+            _ => c::write(given, out, answer),
+        }),
+    ),
+    // Answers.
+    defect(
+        "header-answers-refused",
+        "ingr_header: answer: byte 0 of ",
+        Change::Header(|file, answer| match c::header(file, answer) {
+            0 => 0,
+            number => clear(answer, number),
+        }),
+    ),
+    defect(
+        "color-answers-refused",
+        "ingr_color: answer: byte 0 of ",
+        Change::Color(|file, value, answer| match c::color(file, value, answer) {
+            25 => clear(answer, 25),
+            number => number,
+        }),
+    ),
+    defect(
+        "raster-answers-refused",
+        "ingr_raster: answer: byte 0 of ",
+        Change::Raster(|file, pixels, marks, answer| {
+            match c::raster(file, pixels, marks, answer) {
+                24 => clear(answer, 24),
+                number => number,
+            }
+        }),
+    ),
+    defect(
+        "write-answers-refused",
+        "ingr_write: answer: byte 0 of ",
+        Change::Write(|given, out, answer| match c::write(given, out, answer) {
+            28 => clear(answer, 28),
+            number => number,
+        }),
+    ),
+    defect(
+        "header-past-numbers",
+        "ingr_header: answer: byte 40 of ",
+        Change::Header(|file, answer| {
+            past(HEADER_ANSWER, answer, |answer| c::header(file, answer))
+        }),
+    ),
+    defect(
+        "color-past-numbers",
+        "ingr_color: answer: byte 12 of ",
+        Change::Color(|file, value, answer| {
+            past(COLOR_ANSWER, answer, |answer| c::color(file, value, answer))
+        }),
+    ),
+    defect(
+        "raster-past-numbers",
+        "ingr_raster: answer: byte 8 of ",
+        Change::Raster(|file, pixels, marks, answer| {
+            past(RASTER_ANSWER, answer, |answer| c::raster(file, pixels, marks, answer))
+        }),
+    ),
+    defect(
+        "write-past-numbers",
+        "ingr_write: answer: byte 4 of ",
+        Change::Write(|given, out, answer| {
+            past(WRITE_ANSWER, answer, |answer| c::write(given, out, answer))
+        }),
+    ),
+    defect(
+        "high-byte-first",
+        "ingr_header: answer: byte 0 of ",
+        Change::Header(|file, answer| {
+            let result = c::header(file, answer);
+            if result == 0 {
+                answer[..HEADER_ANSWER].chunks_mut(4).for_each(<[u8]>::reverse);
+            }
+            result
+        }),
+    ),
+    defect(
+        "no-resolution",
+        "ingr_header: answer: byte ",
+        Change::Header(|file, answer| {
+            let result = c::header(file, answer);
+            if result == 0 {
+                answer.copy_within(24..HEADER_ANSWER, 16);
+            }
+            result
+        }),
+    ),
+    defect(
+        "resolution-negated-in-16-bits",
+        "ingr_header: answer: byte ",
+        Change::Header(|file, answer| {
+            let result = c::header(file, answer);
+            if result == 0 && long(answer, 20) == 32_768 {
+                c::put_numbers(&mut answer[20..24], &[0xFFFF_8000]);
+            }
+            result
+        }),
+    ),
+    defect(
+        "good-and-end-exchanged",
+        "ingr_raster: answer: byte 0 of ",
+        Change::Raster(|file, pixels, marks, answer| {
+            let result = c::raster(file, pixels, marks, answer);
+            if result <= 1 {
+                answer[..RASTER_ANSWER].rotate_left(4);
+            }
+            result
+        }),
+    ),
+    defect(
+        "answers-only-good-sheets",
+        "ingr_raster: answer: byte ",
+        Change::Raster(|file, pixels, marks, answer| {
+            let before = answer.to_vec();
+            let result = c::raster(file, pixels, marks, answer);
+            if result == 1 {
+                answer.copy_from_slice(&before);
+            }
+            result
+        }),
+    ),
+    defect(
+        "every-line-counted",
+        "ingr_raster: answer: byte 0 of ",
+        Change::Raster(|file, pixels, marks, answer| {
+            let result = c::raster(file, pixels, marks, answer);
+            if result == 1 {
+                c::put_numbers(&mut answer[..4], &[long(file, 188)]);
+            }
+            result
+        }),
+    ),
+    defect(
+        "every-sheet-good",
+        "ingr_raster: result 0, 1 wanted",
+        Change::Raster(|file, pixels, marks, answer| {
+            match c::raster(file, pixels, marks, answer) {
+                1 => 0,
+                number => number,
+            }
+        }),
+    ),
+    // Pixels and marks.
+    defect(
+        "pixels-high-byte-first",
+        "ingr_raster: pixels: byte ",
+        Change::Raster(|file, pixels, marks, answer| {
+            let result = c::raster(file, pixels, marks, answer);
+            if result <= 1 {
+                let size = 2 * size_of_sheet(file);
+                pixels[..size].chunks_mut(2).for_each(<[u8]>::reverse);
+            }
+            result
+        }),
+    ),
+    defect(
+        "23-of-pixels",
+        ", 23 wanted",
+        Change::Raster(|file, pixels, marks, answer| {
+            match c::raster(file, pixels, marks, answer) {
+                23 if pixels.len() >= size_of_sheet(file) => {
+                    let mut longer = vec![0; 2 * size_of_sheet(file)];
+                    c::raster(file, &mut longer, marks, answer)
+                }
+                number => number,
+            }
+        }),
+    ),
+    defect(
+        "odd-slices-refused",
+        "ingr_raster: result 23, ",
+        Change::Raster(|file, pixels, marks, answer| {
+            match c::raster(file, &mut [0; 0], marks, answer) {
+                23 if pixels.len() % 2 == 1 => 23,
+                _ => c::raster(file, pixels, marks, answer),
+            }
+        }),
+    ),
+    defect(
+        "23-needs-a-byte-more",
+        "ingr_raster: result 23, ",
+        Change::Raster(|file, pixels, marks, answer| {
+            let less = pixels.len().max(1) - 1;
+            match c::raster(file, &mut pixels.to_vec()[..less], marks, answer) {
+                23 => 23,
+                _ => c::raster(file, pixels, marks, answer),
+            }
+        }),
+    ),
+    defect(
+        "24-before-23",
+        "ingr_raster: result 24, 23 wanted",
+        Change::Raster(|file, pixels, marks, answer| {
+            match c::raster(file, pixels, marks, answer) {
+                23 if (marks.len() as u64) < long(file, 188) => 24,
+                number => number,
+            }
+        }),
+    ),
+    defect(
+        "24-half-done",
+        "ingr_raster: pixels: byte ",
+        Change::Raster(|file, pixels, marks, answer| {
+            match c::raster(file, pixels, marks, answer) {
+                24 => clear(pixels, 24),
+                number => number,
+            }
+        }),
+    ),
+    defect(
+        "odd-byte-cleared",
+        "ingr_raster: pixels: byte ",
+        Change::Raster(|file, pixels, marks, answer| {
+            let result = c::raster(file, pixels, marks, answer);
+            if let (0 | 1, Some(last)) = (result, pixels.len().checked_sub(1)) {
+                if last == 2 * size_of_sheet(file) {
+                    pixels[last] = 0;
+                }
+            }
+            result
+        }),
+    ),
+    defect(
+        "pixel-past-sheet",
+        "ingr_raster: pixels: byte ",
+        Change::Raster(|file, pixels, marks, answer| {
+            let result = c::raster(file, pixels, marks, answer);
+            if result <= 1 {
+                pixels[2 * size_of_sheet(file)..].fill(0);
+            }
+            result
+        }),
+    ),
+    defect(
+        "mark-past-lines",
+        "ingr_raster: marks: byte ",
+        Change::Raster(|file, pixels, marks, answer| {
+            let result = c::raster(file, pixels, marks, answer);
+            if result <= 1 {
+                if let Some(mark) = marks.get_mut(long(file, 188) as usize) {
+                    *mark = 9;
+                }
+            }
+            result
+        }),
+    ),
+    defect(
+        "refused-row-unpainted",
+        "ingr_raster: pixels: byte ",
+        Change::Raster(|file, pixels, marks, answer| {
+            let before = pixels.to_vec();
+            under_marks(file, pixels, marks, answer, 1..9, |row, at| {
+                row.copy_from_slice(&before[at..at + row.len()]);
+            })
+        }),
+    ),
+    defect(
+        "unpainted-after-lost",
+        "ingr_raster: pixels: byte ",
+        Change::Raster(|file, pixels, marks, answer| {
+            let before = pixels.to_vec();
+            under_marks(file, pixels, marks, answer, 9..10, |row, at| {
+                row.copy_from_slice(&before[at..at + row.len()]);
+            })
+        }),
+    ),
+    // The accident: the last sheet's picture under a damaged line.
+    defect(
+        "last-sheet-under-damage",
+        "ingr_raster: pixels: byte ",
+        Change::Raster(|file, pixels, marks, answer| {
+            let mut last = LAST.lock().expect("one call at a time");
+            let result = under_marks(file, pixels, marks, answer, 1..10, |row, at| {
+                for (place, &byte) in row.iter_mut().zip(last.iter().skip(at)) {
+                    *place = byte;
+                }
+            });
+            if result <= 1 {
+                *last = pixels.to_vec();
+            }
+            result
+        }),
+    ),
+    // The line below one that has a wrong total is taken for wrong too.
+    defect(
+        "damage-spreads",
+        "ingr_raster: ",
+        Change::Raster(|file, pixels, marks, answer| {
+            let result = c::raster(file, pixels, marks, answer);
+            if result == 1 {
+                let (width, lines) = (2 * long(file, 184) as usize, long(file, 188) as usize);
+                for i in 1..lines {
+                    if matches!((marks[i - 1], marks[i]), (7 | 8, 0)) {
+                        marks[i] = 5;
+                        pixels[i * width..(i + 1) * width].fill(0);
+                        let good = long(answer, 0) - 1;
+                        c::put_numbers(&mut answer[..4], &[good]);
+                    }
+                }
+            }
+            result
+        }),
+    ),
+    defect(
+        "end-by-total",
+        "ingr_raster: answer: byte 4 of ",
+        Change::Raster(|file, pixels, marks, answer| {
+            let result = c::raster(file, pixels, marks, answer);
+            if result == 1 && marks[..long(file, 188) as usize].contains(&7) {
+                answer[4] ^= 2;
+            }
+            result
+        }),
+    ),
+    // The first line of a second band of 65,535 pixels left out.
+    defect(
+        "band-forgets-a-line",
+        "ingr_raster: pixels: byte ",
+        Change::Raster(|file, pixels, marks, answer| {
+            let result = c::raster(file, pixels, marks, answer);
+            if result <= 1 {
+                let width = long(file, 184) as usize;
+                let line = 65_535 / width;
+                if line > 0 && line < long(file, 188) as usize {
+                    pixels[2 * line * width..][..2 * width].fill(0);
+                }
+            }
+            result
+        }),
+    ),
+    // One mark far down.
+    defect(
+        "tall-sheet-unmarked",
+        "ingr_raster: marks: byte ",
+        Change::Raster(|file, pixels, marks, answer| {
+            let result = c::raster(file, pixels, marks, answer);
+            if result <= 1 && long(file, 188) > 60_000 {
+                marks[60_000] = 255;
+            }
+            result
+        }),
+    ),
+    // Colors.
+    defect(
+        "value-narrowed",
+        "ingr_color: result 0, 25 wanted",
+        Change::Color(|file, value, answer| c::color(file, value % 65_536, answer)),
+    ),
+    defect(
+        "igds-257",
+        "ingr_color: answer: byte ",
+        Change::Color(|file, value, answer| {
+            let result = c::color(file, value, answer);
+            if result == 0 && header::read(file).is_ok_and(|h| h.ctv == 1) {
+                answer[0] = answer[1];
+            }
+            result
+        }),
+    ),
+    // Turning.
+    defect(
+        "31-before-23",
+        "result 31, 23 wanted",
+        Change::Turn(|given, filled| {
+            let Turn { back, slo, ppl, nol, pixels } = *given;
+            let order = turn::Order { back, slo, ppl, nol, pixels, room: filled.len() };
+            match turn::faults(&order)[..] {
+                [23, 31] => 31,
+                _ => c::turn(given, filled),
+            }
+        }),
+    ),
+    defect(
+        "back-as-upright",
+        "ingr_turn_back: pixels: byte ",
+        Change::Turn(|given, filled| c::turn(&Turn { back: false, ..*given }, filled)),
+    ),
+    defect(
+        "turn-clears-surplus",
+        "ingr_turn: upright: byte ",
+        Change::Turn(|given, filled| {
+            let result = c::turn(given, filled);
+            if result == 0 {
+                filled[given.ppl as usize * given.nol as usize..].fill(0);
+            }
+            result
+        }),
+    ),
+    // Writing.
+    defect(
+        "drs-not-reduced",
+        "ingr_write: output: byte 192 of ",
+        Change::Write(|given, out, answer| {
+            c::write(&Write { drs: given.drs.min(65_535), ..*given }, out, answer)
+        }),
+    ),
+    defect(
+        "length-of-output",
+        "ingr_write: answer: byte ",
+        Change::Write(|given, out, answer| {
+            let result = c::write(given, out, answer);
+            if result == 0 {
+                c::put_numbers(answer, &[out.len() as u64]);
+            }
+            result
+        }),
+    ),
+    defect(
+        "output-cleared",
+        "ingr_write: output: byte ",
+        Change::Write(|given, out, answer| {
+            let result = c::write(given, out, answer);
+            if result == 0 {
+                let length = long(answer, 0) as usize;
+                out[length..].fill(0);
+            }
+            result
+        }),
+    ),
+    defect(
+        "header-then-28",
+        "ingr_write: output: byte 0 of ",
+        Change::Write(|given, out, answer| match c::write(given, out, answer) {
+            28 => {
+                out.iter_mut().zip([0x08, 0x09]).for_each(|(place, byte)| *place = byte);
+                28
+            }
+            number => number,
+        }),
+    ),
+    defect(
+        "runs-on",
+        "runs on",
+        Change::Header(|file, answer| {
+            let result = c::header(file, answer);
+            if result == 22 {
+                std::thread::sleep(Duration::MAX);
+            }
+            result
+        }),
+    ),
+    // Bytes that no call may touch.
+    defect(
+        "writes-before-pixels",
+        "pixels: guard, 1 before its start,",
+        Change::Touch("pixels", |_| Some(-1)),
+    ),
+    defect("writes-behind-pixels", "pixels: guard, 0 past its end,", Change::Touch("pixels", Some)),
+    defect("writes-behind-marks", "marks: guard, 0 past its end,", Change::Touch("marks", Some)),
+    defect(
+        "writes-before-answer",
+        "answer: guard, 4 before its start,",
+        Change::Touch("answer", |_| Some(-4)),
+    ),
+    defect(
+        "writes-behind-output",
+        "output: guard, 1 past its end,",
+        Change::Touch("output", |len| Some(len + 1)),
+    ),
+    defect(
+        "writes-behind-upright",
+        "upright: guard, 1 past its end,",
+        Change::Touch("upright", |len| Some(len + 1)),
+    ),
+    defect("changes-file", "file: byte 0 of ", Change::Touch("file", |len| (len > 0).then_some(0))),
+    defect(
+        "changes-table",
+        "table: byte 767 of 768",
+        Change::Touch("table", |len| (len == 768).then_some(767)),
+    ),
+    defect(
+        "changes-written-pixels",
+        "ingr_write: pixels: byte 0 of ",
+        Change::Touch("written", |len| (len > 0).then_some(0)),
+    ),
+    defect(
+        "changes-turned-pixels",
+        "ingr_turn: pixels: byte 0 of ",
+        Change::Touch("turned", |len| (len > 0).then_some(0)),
+    ),
+];
+
+/// The last picture read.
+static LAST: Mutex<Vec<u8>> = Mutex::new(Vec::new());
+
+/// Looks at the length of an answer last of all.
+fn late<const N: usize>(
+    mut whole: [u8; N],
+    answer: &mut [u8],
+    call: impl Fn(&mut [u8]) -> u32,
+) -> u32 {
+    match call(&mut whole) {
+        0 => call(answer),
+        number => number,
+    }
+}
+
+/// Takes an answer slice that is one byte too short.
+fn one_less<const N: usize>(
+    mut whole: [u8; N],
+    answer: &mut [u8],
+    call: impl FnOnce(&mut [u8]) -> u32,
+) -> u32 {
+    if answer.len() != N - 1 {
+        return call(answer);
+    }
+    let result = call(&mut whole);
+    if result <= 1 {
+        answer.copy_from_slice(&whole[..N - 1]);
+    }
+    result
+}
+
+/// Writes a byte past the numbers, if there is one.
+fn past(needed: usize, answer: &mut [u8], call: impl FnOnce(&mut [u8]) -> u32) -> u32 {
+    let result = call(answer);
+    if let (0 | 1, Some(byte)) = (result, answer.get_mut(needed)) {
+        *byte = 0;
+    }
+    result
+}
+
+fn clear(bytes: &mut [u8], number: u32) -> u32 {
+    bytes.fill(0);
+    number
+}
+
+/// The pixels of a sheet whose header is accepted.
+fn size_of_sheet(file: &[u8]) -> usize {
+    (long(file, 184) * long(file, 188)) as usize
+}
+
+/// Changes the rows that have one of these marks; a row is told where it starts.
+fn under_marks(
+    file: &[u8],
+    pixels: &mut [u8],
+    marks: &mut [u8],
+    answer: &mut [u8],
+    chosen: std::ops::Range<u8>,
+    mut change: impl FnMut(&mut [u8], usize),
+) -> u32 {
+    let result = c::raster(file, pixels, marks, answer);
+    if result <= 1 {
+        let (width, lines) = (2 * long(file, 184) as usize, long(file, 188) as usize);
+        for (i, row) in pixels.chunks_mut(width).take(lines).enumerate() {
+            if chosen.contains(&marks[i]) {
+                change(row, i * width);
+            }
+        }
+    }
+    result
+}
+
+/// The defect that is played in this process.
+static PLAYED: OnceLock<&'static Defect> = OnceLock::new();
+
+/// The table of a stand-in. One process plays one.
+pub fn table(name: &str) -> Option<Calls> {
+    let defect = DEFECTS.iter().find(|defect| defect.name == name)?;
+    PLAYED.set(defect).ok()?;
+    let turn = turn_upright;
+    Some(Calls { header, raster, color, turn, turn_back, write })
+}
+
+fn played() -> &'static Change {
+    PLAYED.get().map_or(&Change::None, |defect| &defect.change)
+}
+
+/// Does to a buffer what the defect does.
+unsafe fn touch<T>(name: &str, at: *const T, len: usize) {
+    let Change::Touch(chosen, place) = played() else {
+        return;
+    };
+    if *chosen == name {
+        if let Some(offset) = place((size_of::<T>() * len) as isize) {
+            *at.cast_mut().cast::<u8>().wrapping_offset(offset) ^= 0x40;
+        }
+    }
+}
+
+unsafe extern "C" fn header(file: *const u8, n: usize, answer: *mut u8, len: usize) -> u32 {
+    let call = if let Change::Header(call) = played() { *call } else { c::header };
+    let result = call(from_raw_parts(file, n), from_raw_parts_mut(answer, len));
+    touch("file", file, n);
+    touch("answer", answer, len);
+    result
+}
+
+unsafe extern "C" fn color(
+    file: *const u8,
+    n: usize,
+    value: u32,
+    answer: *mut u8,
+    len: usize,
+) -> u32 {
+    let call = if let Change::Color(call) = played() { *call } else { c::color };
+    let result = call(from_raw_parts(file, n), value, from_raw_parts_mut(answer, len));
+    touch("file", file, n);
+    touch("answer", answer, len);
+    result
+}
+
+unsafe extern "C" fn raster(
+    file: *const u8,
+    n: usize,
+    pixels: *mut u8,
+    pixels_len: usize,
+    marks: *mut u8,
+    marks_len: usize,
+    answer: *mut u8,
+    len: usize,
+) -> u32 {
+    let call = if let Change::Raster(call) = played() { *call } else { c::raster };
+    let result = call(
+        from_raw_parts(file, n),
+        from_raw_parts_mut(pixels, pixels_len),
+        from_raw_parts_mut(marks, marks_len),
+        from_raw_parts_mut(answer, len),
+    );
+    touch("file", file, n);
+    touch("pixels", pixels, pixels_len);
+    touch("marks", marks, marks_len);
+    touch("answer", answer, len);
+    result
+}
+
+unsafe extern "C" fn turn_upright(
+    slo: u32,
+    ppl: u32,
+    nol: u32,
+    pixels: *const u16,
+    n: usize,
+    upright: *mut u16,
+    len: usize,
+) -> u32 {
+    turned(false, [slo, ppl, nol], (pixels, n), (upright, len))
+}
+
+unsafe extern "C" fn turn_back(
+    slo: u32,
+    ppl: u32,
+    nol: u32,
+    upright: *const u16,
+    n: usize,
+    pixels: *mut u16,
+    len: usize,
+) -> u32 {
+    turned(true, [slo, ppl, nol], (upright, n), (pixels, len))
+}
+
+unsafe fn turned(
+    back: bool,
+    numbers: [u32; 3],
+    read: (*const u16, usize),
+    filled: (*mut u16, usize),
+) -> u32 {
+    let call = if let Change::Turn(call) = played() { *call } else { c::turn };
+    let [slo, ppl, nol] = numbers;
+    let given = Turn { back, slo, ppl, nol, pixels: from_raw_parts(read.0, read.1) };
+    let result = call(&given, from_raw_parts_mut(filled.0, filled.1));
+    touch("turned", read.0, read.1);
+    touch("upright", filled.0, filled.1);
+    result
+}
+
+unsafe extern "C" fn write(
+    kind: u32,
+    ppl: u32,
+    nol: u32,
+    slo: u32,
+    scn: u32,
+    drs: u32,
+    table: *const u8,
+    table_len: usize,
+    pixels: *const u16,
+    n: usize,
+    out: *mut u8,
+    out_len: usize,
+    answer: *mut u8,
+    len: usize,
+) -> u32 {
+    let call = if let Change::Write(call) = played() { *call } else { c::write };
+    let given = Write {
+        kind,
+        ppl,
+        nol,
+        slo,
+        scn,
+        drs,
+        table: from_raw_parts(table, table_len),
+        pixels: from_raw_parts(pixels, n),
+    };
+    let result = call(&given, from_raw_parts_mut(out, out_len), from_raw_parts_mut(answer, len));
+    touch("table", table, table_len);
+    touch("written", pixels, n);
+    touch("output", out, out_len);
+    touch("answer", answer, len);
+    result
+}
