@@ -75,6 +75,12 @@ static void read_raster16(struct left *to)
                                to->marks, to->marks_size, to->answer, sizeof to->answer);
 }
 
+static void read_tuned(struct left *to)
+{
+    to->result = tuned_raster(given.file, given.file_size, to->big, to->big_size, to->marks, to->marks_size,
+                              to->answer, sizeof to->answer);
+}
+
 static void write_raster(const struct side *side, struct left *to)
 {
     to->result = side->write(given.type, given.ppl, given.nol, 4, given.scn, 0, NULL, 0, given.picture,
@@ -316,6 +322,12 @@ static void reading(uint32_t type, uint32_t ppl, uint32_t nol, uint32_t scn, int
     lend(picture_bytes());
     const struct job job = {read_raster, type <= 3 ? copy_file : store_pixels, NULL};
     row(&job, name, damage == NONE ? 0 : 1);
+    if (runs == SHORT_RUNS) {
+        const struct job against = {read_raster, NULL, read_tuned};
+        char longer[200];
+        snprintf(longer, sizeof longer, "%s: against C with eight pixels at a time", name);
+        row(&against, longer, 0);
+    }
     if (ingr_raster16 != NULL && damage == NONE && nol <= 2000) {
         const struct job against = {read_raster, NULL, read_raster16};
         strncat(name, ": bytes against 16-bit pixels", sizeof name - strlen(name) - 1);

@@ -159,19 +159,25 @@ uint32_t plain_color(const uint8_t *file, size_t file_size, uint32_t value,
  * about as much slower. */
 
 /* Fills pixels from `at`, with `room` bytes up to the end of the row, which later pixels overwrite:
- * a short run is one store of eight pixels. */
+ * so a short run can be one store of eight pixels. That is a trick, and the file is built once
+ * without it and once with it, as `tuned_raster`. */
 static inline void fill(uint8_t *restrict at, size_t count, uint16_t value, size_t room)
 {
+#ifdef EIGHT_AT_ONCE
     const uint64_t four = value * UINT64_C(0x0001000100010001);
     if (count <= 8 && room >= 16) {
         memcpy(at, &four, 8);
         memcpy(at + 8, &four, 8);
-    } else if (value == 0) {
+        return;
+    }
+#else
+    (void)room;
+#endif
+    if (value == 0)
         memset(at, 0, 2 * count);
-    } else {
+    else
         for (size_t i = 0; i < count; i++)
             memcpy(at + 2 * i, &value, 2);
-    }
 }
 
 /* A body as far as it may be read, the row that it fills, and what became of it. */

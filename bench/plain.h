@@ -8,6 +8,9 @@
 uint32_t plain_header(const uint8_t *file, size_t file_size, uint8_t *answer, size_t answer_size);
 uint32_t plain_raster(const uint8_t *file, size_t file_size, uint8_t *pixels, size_t pixels_size,
                       uint8_t *marks, size_t marks_size, uint8_t *answer, size_t answer_size);
+/* Built with EIGHT_AT_ONCE: short runs are stored eight pixels at a time. */
+uint32_t tuned_raster(const uint8_t *file, size_t file_size, uint8_t *pixels, size_t pixels_size,
+                      uint8_t *marks, size_t marks_size, uint8_t *answer, size_t answer_size);
 uint32_t plain_color(const uint8_t *file, size_t file_size, uint32_t value,
                      uint8_t *answer, size_t answer_size);
 uint32_t plain_turn(uint32_t slo, uint32_t ppl, uint32_t nol, const uint16_t *pixels,
