@@ -47,8 +47,19 @@ pub fn put_run_bytes(row: &mut [u8], at: usize, n: usize, v: u16) -> usize
         return row.len();
     }
     let end = at + lesser(words_to_bytes(Words(n)).0, row.len() - at);
-    fill_words(&mut row[at..end], v);
+    fill_pixels(&mut row[at..end], v);
     end
+}
+
+// One value in every pixel of a row of bytes, as far as it goes. Zeros, the commonest, are cleared: that is the faster way.
+fn fill_pixels(row: &mut [u8], v: u16)
+    ensures { λ _. ⌜ now (row .exit) ≡ over (wordsToBytes (replicate (length (now (row .entry))) v)) (now (row .entry)) ⌝ }
+{
+    if v == 0 {
+        clear(row);
+    } else {
+        fill_words(row, v);
+    }
 }
 
 // Bytes 0.

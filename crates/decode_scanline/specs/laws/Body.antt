@@ -1,8 +1,8 @@
 -- Where the body of a good scanline lies: its row has the body's pixels.
-use Prim.Native.Nat.{ℕ, zero, suc, _+_, _-_, _≤_}
+use Prim.Native.Nat.{ℕ, _+_, _-_, _≤_}
 use mathlib.Core.Path.{_≡_, refl, sym, _∙_, ap}
 use mathlib.Core.Bool.{Bool, true, false, cond}
-use mathlib.Core.List.{List, _∷_, _++_}
+use mathlib.Core.List.{List, _++_}
 use native.Mathlib.Omega.{arith}
 use lib.ListN.{length, take, drop, length-replicate}
 use lib.Dec.{eqb}
@@ -15,6 +15,7 @@ use Rattle.units.specs.Counts.{bytesOfWords, wordBytes}
 use Rattle.units.specs.Over.{over, zeros}
 use Rattle.units.specs.Words.{wordsToBytes}
 use Rattle.units.specs.laws.Over.{over-full, over-fits}
+use Rattle.units.specs.laws.Stores.{zero-bytes}
 use Rattle.layout.specs.Scanline.{Reading, Step, headOf, bodyOf, following, reading, headedReading, openReading, headedStep, openStep, stepOf, readingOf}
 use Rattle.layout.specs.laws.Line.{NotLost, not-lost, is-not-lost, no-fault, row-by-status, length-row}
 use Rattle.decode_scanline.specs.declared.Scanline.{Scanline}
@@ -88,13 +89,6 @@ module _ (scn t p number : ℕ) (rest : List ℕ) where
         → over (wordsToBytes (bodyPixels t (take (r .used .0 - from) (drop from rest)) p)) old
         ≡ over (wordsToBytes (readingOf scn t p number rest .row)) old
     painted-bytes old start none = ap (λ (l : List ℕ). over (wordsToBytes l) old) (sym (good-line start none .row-is))
-
-pub zero-bytes : (n : ℕ) → wordsToBytes (zeros n) ≡ zeros (wordBytes n)
-unfolding wordsToBytes
-zero-bytes zero = refl
-zero-bytes (suc n) =
-    let e : wordBytes (suc n) ≡ suc (suc (wordBytes n)) = omega arith in
-    rw e (ap (λ (l : List ℕ). 0 ∷ (0 ∷ l)) (zero-bytes n))
 
 -- a row of bytes is cleared as far as it has pixels
 pub cleared-bytes : (n end : ℕ) (old row : List ℕ) → end ≡ wordBytes n → end ≤ length old → row ≡ zeros n

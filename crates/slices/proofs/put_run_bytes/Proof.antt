@@ -27,7 +27,7 @@ returns-2 c =
     let room : end ≤ length (a .row .now) = omega arith in
     let m : length (midOf (a .at) (end - a .at) (a .row .now)) ≡ end - a .at = mid-len (a .at) end (a .row .now) room in (
       omega arith,
-      part-stored (a .row .now) ((wordsToBytes (replicate (a .n) (a .v)))) (c .before .before .fill-words .last .0) (a .at) end (omega arith) e (c .before .before .fill-words .ensures
+      part-stored (a .row .now) ((wordsToBytes (replicate (a .n) (a .v)))) (c .before .before .fill-pixels .last .0) (a .at) end (omega arith) e (c .before .before .fill-pixels .ensures
           ∙ over-full _ _ (omega (arith, length-bytes (replicate (length (midOf (a .at) (end - a .at) (a .row .now))) (a .v)), length-replicate (length (midOf (a .at) (end - a .at) (a .row .now))) (a .v)))
           ∙ ap (λ (k : ℕ). take k (wordsToBytes (replicate k (a .v)))) m
           ∙ take-same-bytes (end - a .at) (end - a .at) (a .n) (a .v) (omega arith) (omega arith)),

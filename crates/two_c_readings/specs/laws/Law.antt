@@ -19,7 +19,7 @@ use Rattle.layout.specs.Reading.{RasterNumbers, readNumbers, rejectedRaster, ra
 use Rattle.layout.specs.PixelBytes.{byteBufferRules, bytesRejection, bytesReading, pixelBytesAfter, byteMarksAfter}
 use Rattle.layout.specs.laws.Chain.{length-statuses, good-most}
 use Rattle.header.specs.laws.Accepted.{accepted}
-use Rattle.decode_scanline.specs.laws.Body.{zero-bytes}
+use Rattle.units.specs.laws.Stores.{zero-bytes}
 use Rattle.decode_raster.specs.laws.Whole.{half-below, rows-bytes}
 use Rattle.isolation.specs.Statement.{ChangedInBodies, OneReading, TwoReadings, SameLine, Isolated, bufferRejection}
 use Rattle.isolation.specs.laws.OneFile.{withBytes}

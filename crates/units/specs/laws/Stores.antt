@@ -1,5 +1,5 @@
 -- Words as bytes: laws of `wordsToBytes`, and of the stores that put a word, or a number of 32 bits, where it belongs.
-use Prim.Native.Nat.{ℕ, suc, _+_, _*_, _%_, _/_, _^_, _≤_, _<_}
+use Prim.Native.Nat.{ℕ, zero, suc, _+_, _*_, _%_, _/_, _^_, _≤_, _<_}
 use mathlib.Core.Path.{_≡_, refl, sym, _∙_, ap}
 use mathlib.Core.Bool.{Bool, true, false}
 use mathlib.Core.List.{List, [], _∷_, _++_}
@@ -10,7 +10,9 @@ use lib.ListN.{length, getD, drop, set, replicate, drop-of-length-le, length-rep
 use lib.Dec.{ltb}
 use lib.Seq.{sets, set-out, drop-cons, length-sets}
 use borrow.Author.Tests.{ltb-true, ltb-false}
+use Rattle.units.specs.Counts.{wordBytes}
 use Rattle.units.specs.LittleEndian.{u16Bytes, u32Bytes}
+use Rattle.units.specs.Over.{zeros}
 use Rattle.units.specs.Words.{twoBytes, wordsToBytes}
 use Rattle.units.specs.laws.Over.{sets-past, sets-append}
 
@@ -105,3 +107,11 @@ pub long-bytes : {v : ℕ} → v < 2 ^ 32 → (out : List ℕ) (at : ℕ)
     → sets (sets out at (twoBytes (v % 65536))) (at + 2) (twoBytes (v / 65536)) ≡ sets out at (u32Bytes v)
 long-bytes {v} h out at =
     (λ k. sets (sets out at (low-half v k)) (at + 2) (high-half h k)) ∙ sym (sets-append out at (u16Bytes v) (u16Bytes (v / 65536)))
+
+-- pixels 0 are bytes 0
+pub zero-bytes : (n : ℕ) → wordsToBytes (zeros n) ≡ zeros (wordBytes n)
+unfolding wordsToBytes
+zero-bytes zero = refl
+zero-bytes (suc n) =
+    let e : wordBytes (suc n) ≡ suc (suc (wordBytes n)) = omega arith in
+    rw e (ap (λ (l : List ℕ). 0 ∷ (0 ∷ l)) (zero-bytes n))
