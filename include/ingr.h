@@ -125,8 +125,8 @@ extern "C" {
 
 /* Sizes. */
 
-/* No call uses more bytes of stack than these, 160 KiB. */
-#define INGR_STACK 163840
+/* No call uses more bytes of stack than these, 16 KiB. */
+#define INGR_STACK 16384
 
 /* The bytes of the answers. */
 #define INGR_HEADER_ANSWER 40
