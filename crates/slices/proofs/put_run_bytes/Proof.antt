@@ -6,8 +6,8 @@ use borrow.Rule.Slice.PartMut.{midOf, mid-len}
 use Rattle.units.specs.Counts.{wordBytes}
 use Rattle.units.specs.Words.{wordsToBytes}
 use Rattle.units.specs.laws.Over.{sets-past, over-full}
-use Rattle.units.specs.laws.Stores.{length-bytes}
-use Rattle.slices.specs.laws.Painting.{part-stored, take-same-bytes}
+use Rattle.units.specs.laws.Stores.{length-bytes, take-same-bytes}
+use Rattle.slices.specs.laws.Painting.{part-stored}
 use borrow.Author.Needs.{needs}
 use Rattle.slices.proofs.put_run_bytes.Statement.{statement}
 use Rattle.slices.proofs.put_run_bytes.Tie as tie

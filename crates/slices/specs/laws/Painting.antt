@@ -1,5 +1,5 @@
 -- Runs put into a row one after the other, as far as it goes: pixels, or their bytes.
-use Prim.Native.Nat.{ℕ, zero, suc, _+_, _-_, _*_, _/_, _%_, _≤_, _<_, min}
+use Prim.Native.Nat.{ℕ, zero, suc, _+_, _-_, _≤_, _<_, min}
 use mathlib.Core.Path.{_≡_, refl, sym, _∙_, ap}
 use mathlib.Core.Bool.{Bool, true, false}
 use mathlib.Core.List.{List, [], _∷_, _++_}
@@ -42,16 +42,6 @@ pub take-same : (m n v : ℕ) → m ≤ n → take m (replicate n v) ≡ replica
 take-same zero n v h = refl
 take-same (suc m) zero v h = absurd (omega arith)
 take-same (suc m) (suc n) v h = ap (λ (l : List ℕ). v ∷ l) (take-same m n v (omega arith))
-
--- the first bytes of one word over and over, however often
-pub take-same-bytes : (m a b w : ℕ) → m ≤ 2 * a → m ≤ 2 * b → take m (wordsToBytes (replicate a w)) ≡ take m (wordsToBytes (replicate b w))
-unfolding wordsToBytes
-take-same-bytes zero a b w h g = refl
-take-same-bytes (suc m) zero b w h g = absurd (omega arith)
-take-same-bytes (suc m) (suc a) zero w h g = absurd (omega arith)
-take-same-bytes (suc zero) (suc a) (suc b) w h g = refl
-take-same-bytes (suc (suc m)) (suc a) (suc b) w h g =
-    ap (λ (l : List ℕ). w % 256 ∷ (w / 256 ∷ l)) (take-same-bytes m a b w (omega arith) (omega arith))
 
 -- A run is put at its place, and then what comes after it.
 run-put : (row : List ℕ) (at : ℕ) (new next : List ℕ) {row′ : List ℕ} {r : ℕ} → row′ ≡ sets row at new → r ≡ min (at + length new) (length row)

@@ -6,15 +6,15 @@ use mathlib.Core.List.{List, [], _∷_, _++_}
 use native.Mathlib.Numerals.{add-one, add-two}
 use native.Mathlib.Nat.{div-div-eq-div-mul}
 use native.Mathlib.Omega.{arith}
-use lib.ListN.{length, getD, drop, set, replicate, drop-of-length-le, length-replicate, length-set, getD-replicate}
+use lib.ListN.{length, getD, take, drop, set, replicate, drop-of-length-le, length-replicate, length-set, getD-replicate}
 use lib.Dec.{ltb}
 use lib.Seq.{sets, set-out, drop-cons, length-sets}
 use borrow.Author.Tests.{ltb-true, ltb-false}
 use Rattle.units.specs.Counts.{wordBytes}
 use Rattle.units.specs.LittleEndian.{u16Bytes, u32Bytes}
-use Rattle.units.specs.Over.{zeros}
+use Rattle.units.specs.Over.{over, zeros}
 use Rattle.units.specs.Words.{twoBytes, wordsToBytes}
-use Rattle.units.specs.laws.Over.{sets-past, sets-append}
+use Rattle.units.specs.laws.Over.{sets-past, sets-append, over-full}
 
 pub length-bytes : (ws : List ℕ) → length (wordsToBytes ws) ≡ 2 * length ws
 unfolding wordsToBytes
@@ -115,3 +115,24 @@ zero-bytes zero = refl
 zero-bytes (suc n) =
     let e : wordBytes (suc n) ≡ suc (suc (wordBytes n)) = omega arith in
     rw e (ap (λ (l : List ℕ). 0 ∷ (0 ∷ l)) (zero-bytes n))
+
+-- the first bytes of one word over and over, however often
+pub take-same-bytes : (m a b w : ℕ) → m ≤ 2 * a → m ≤ 2 * b → take m (wordsToBytes (replicate a w)) ≡ take m (wordsToBytes (replicate b w))
+unfolding wordsToBytes
+take-same-bytes zero a b w h g = refl
+take-same-bytes (suc m) zero b w h g = absurd (omega arith)
+take-same-bytes (suc m) (suc a) zero w h g = absurd (omega arith)
+take-same-bytes (suc zero) (suc a) (suc b) w h g = refl
+take-same-bytes (suc (suc m)) (suc a) (suc b) w h g =
+    ap (λ (l : List ℕ). w % 256 ∷ (w / 256 ∷ l)) (take-same-bytes m a b w (omega arith) (omega arith))
+
+-- eight words and more give the same bytes, as far as a short buffer goes
+pub short-bytes : (out : List ℕ) (w : ℕ) → length out ≤ 16
+    → over (wordsToBytes (replicate 8 w)) out ≡ over (wordsToBytes (replicate (length out) w)) out
+short-bytes out w h =
+    let eight : length (wordsToBytes (replicate 8 w)) ≡ 16 = length-bytes (replicate 8 w) in
+    let all : length (wordsToBytes (replicate (length out) w)) ≡ 2 * length out =
+    length-bytes (replicate (length out) w) ∙ ap (λ (n : ℕ). 2 * n) (length-replicate (length out) w) in
+    over-full (wordsToBytes (replicate 8 w)) out (omega arith)
+    ∙ take-same-bytes (length out) 8 (length out) w (omega arith) (omega arith)
+    ∙ sym (over-full (wordsToBytes (replicate (length out) w)) out (omega arith))
