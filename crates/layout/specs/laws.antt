@@ -1,3 +1,4 @@
 pub mod Chain
 pub mod Line
+pub mod PixelBytes
 pub mod Reading

@@ -1,15 +1,15 @@
 -- The whole reading: what a rejected call answers, what room one has that is not, and what it answers.
 use Prim.Native.Nat.{ℕ, zero, suc, _*_, _/_, _≤_, _<_}
-use mathlib.Core.Path.{_≡_, refl, sym, _∙_, ap, subst}
-use mathlib.Core.Bool.{Bool, true, false}
-use mathlib.Core.List.{List, [], _∷_, _++_}
+use mathlib.Core.Path.{_≡_, sym, _∙_, ap, subst}
+use mathlib.Core.Bool.{true, false}
+use mathlib.Core.List.{List, _++_}
 use native.Mathlib.Nat.{zero-mul, suc-mul}
 use native.Mathlib.Omega.{arith}
 use lib.ListN.{length, drop}
-use lib.Dec.{eqb, ltb}
-use borrow.Author.Tests.{eq-eqb, ne-eqb, lt-ltb, le-ltb, ltb-true, ltb-false}
+use lib.Dec.{eqb}
+use borrow.Author.Tests.{eq-eqb, ne-eqb, lt-ltb, le-ltb, ltb-false}
 use Rattle.units.specs.Counts.{wordBytes}
-use Rattle.units.specs.Rules.{rule, first}
+use Rattle.units.specs.Rules.{first}
 use Rattle.units.specs.Words.{wordsToBytes}
 use Rattle.units.specs.laws.Rules.{none-holds, both-none, by-first, first-later}
 use Rattle.header.specs.Rejections.{rejectionTo22, rulesTo22}
@@ -18,6 +18,7 @@ use Rattle.layout.specs.declared.RasterLayout.{RasterLayout}
 use Rattle.layout.specs.Chain.{Raster, sheetOf, rasterOf, rows, goodCount}
 use Rattle.layout.specs.Reading.{bufferRules, rasterRejection, answerOf, readNumbers, rejectedRaster, rasterReading, pixelsAfter, marksAfter}
 use Rattle.layout.specs.PixelBytes.{bytesRejection, bytesReading, pixelBytesAfter, byteMarksAfter}
+use Rattle.layout.specs.laws.PixelBytes.{bytes-rejection}
 use Rattle.decode_raster.specs.declared.Chain.{Chain}
 use Rattle.decode_raster.specs.laws.Answer.{asPixels, asBytes, Fits, ChainAt}
 use Rattle.decode_raster.specs.laws.Lines.{Done}
@@ -92,19 +93,6 @@ module _ (f pixels marks : List ℕ) {n : ℕ} (number : n ≡ rasterRejection f
         (rw t (read-answer f l read c (d .chain) a answer), (rw t (d .pixels-is), rw t (d .marks-is)))
 
 -- Into bytes: as for as many pixels as there is room for.
-pub half-below : (n x : ℕ) → ltb n (wordBytes x) ≡ ltb (n / 2) x
-half-below n x = go (ltb n (wordBytes x)) refl
-  where
-    go : (b : Bool) → ltb n (wordBytes x) ≡ b → ltb n (wordBytes x) ≡ ltb (n / 2) x
-    go true t = let h : n < wordBytes x = ltb-true n (wordBytes x) t in t ∙ sym (lt-ltb (n / 2) x (omega arith))
-    go false t = let h : wordBytes x ≤ n = ltb-false n (wordBytes x) t in t ∙ sym (le-ltb (n / 2) x (omega arith))
-
-pub bytes-rejection : (f : List ℕ) (pixels marks : ℕ) → bytesRejection f pixels marks ≡ rasterRejection f (pixels / 2) marks
-unfolding bytesRejection rasterRejection
-bytes-rejection f pixels marks =
-    ap (λ (t : Bool). first (rulesTo22 f ++ (rule 23 t ∷ (rule 24 (ltb marks (sheetOf f .nol)) ∷ []))))
-    (half-below pixels (sheetOf f .nol * sheetOf f .ppl))
-
 pub rows-bytes : (n p : ℕ) → n * wordBytes p ≡ wordBytes (n * p)
 rows-bytes zero p = rw (zero-mul (2 * p), zero-mul p)
 rows-bytes (suc n) p = omega (arith, suc-mul n (2 * p), suc-mul n p, rows-bytes n p)

@@ -33,16 +33,24 @@ room c =
     (row-fits (rasterOf (s .args .l) (s .args .bytes .now)) (asBytes (s .args .l .ppl)) (s .args .pixels .now) (s .args .marks .now) (l .pixels) (l .marks) (l .chain) (l .k)
     (l .inv) (c .loop-test .taken) (s .pre))
 
+-- all rows have theirs
+all-rows : (c : tie.In-loop Inv-loop μ-loop)
+    → let a = c .before .before .before .before .before .before .before .before .args in
+    a .l .nol * c .before .before .before .words-to-bytes .result .0 ≤ length (a .pixels .now)
+all-rows c =
+    let s = c .before .before .before .before .before .before .before .before in
+    subst (λ (w : ℕ). s .args .l .nol * w ≤ length (s .args .pixels .now)) (sym (width-is (c .before))) (s .pre .pixels-fit)
+
 loop-holds : tie.Need-loop-holds Inv-loop μ-loop
 loop-holds c =
     let a = c .before .before .before .before .before .before .args in
     lines-first (rasterOf (a .l) (a .bytes .now)) (asBytes (a .l .ppl)) (a .pixels .now) (a .marks .now)
 
 mul-from : tie.Need-mul-from Inv-loop μ-loop
-mul-from c = omega (arith, room c)
+mul-from c = omega (arith, room c, all-rows c)
 
 add-to : tie.Need-add-to Inv-loop μ-loop
-add-to c = omega (arith, room c)
+add-to c = omega (arith, room c, all-rows c)
 
 sub-read-line : tie.Need-sub-read-line Inv-loop μ-loop
 sub-read-line c = omega (arith, room c)

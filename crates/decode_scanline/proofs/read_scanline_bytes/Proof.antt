@@ -25,28 +25,27 @@ scanned c =
     subst (λ (p : ℕ). IsScan (stepOf (a .scn) (a .dtc) p (a .rest .now)) (readingOf (a .scn) (a .dtc) p (a .number) (a .rest .now)) (c .before .scan-scanline .result))
     (c .before .before .bytes-to-words .ensures) (c .before .scan-scanline .ensures)
 
--- its pixels' bytes lie within the row
-room : (c : tie.After-words-to-bytes)
-    → let a = c .before .before .before .before .before .before .before .args in
-    (c .words-to-bytes .result .0 ≡ wordBytes (wordCount (a .row .now) .0)) × (c .words-to-bytes .result .0 ≤ length (a .row .now))
-room c = (omega arith, omega arith)
+-- a row's length is held in 64 bits
+held : (c : tie.After-words-to-bytes) → length (c .before .before .before .before .before .before .before .args .row .now) ≤ 18446744073709551615
+held c = omega arith
 
 slice-aggregate-clear : tie.Need-slice-aggregate-clear
 slice-aggregate-clear c =
     let a = c .before .before .before .before .before .before .before .before .args in
-    sym (length-take-le (c .before .words-to-bytes .result .0) (a .row .now) (room (c .before) .1))
+    sym (length-take-le _ (a .row .now) (omega arith))
 
 returns : tie.Need-returns
 returns c =
     let w = c .before .before .before .before in
     let k = w .before .before in
     let a = c .before .before .before .before .before .before .before .before .before .before .before .args in
-    let r = room w in
-    let n = w .words-to-bytes .result .0 in (
+    let n = w .words-to-bytes .result .0 in
+    let all : n ≡ wordBytes (wordCount (a .row .now) .0) = omega (arith, held w) in
+    let room : n ≤ length (a .row .now) = omega arith in (
       scanned k,
-      ap (λ (x : List ℕ). x ++ drop n (a .row .now)) (c .before .before .clear .ensures ∙ ap zeros (length-take-le n (a .row .now) (r .1)))
+      ap (λ (x : List ℕ). x ++ drop n (a .row .now)) (c .before .before .clear .ensures ∙ ap zeros (length-take-le n (a .row .now) room))
           ∙ cleared-bytes (wordCount (a .row .now) .0) n (a .row .now) (readingOf (a .scn) (a .dtc) (wordCount (a .row .now) .0) (a .number) (a .rest .now) .row)
-          (r .0) (r .1) (blank-line (a .scn) (a .dtc) (wordCount (a .row .now) .0) (a .number) (a .rest .now) (scanned k) (w .before .if1 .taken)),
+          all room (blank-line (a .scn) (a .dtc) (wordCount (a .row .now) .0) (a .number) (a .rest .now) (scanned k) (w .before .if1 .taken)),
     )
 
 -- where the body lies
@@ -87,7 +86,7 @@ read-scanline-bytes-spec =
     (λ c κs. search needs)
     (λ c κs. search needs)
     (λ c κs. search needs)
-    (λ c. room c .1)
+    (λ c. omega arith)
     slice-aggregate-clear
     (λ c κs. search needs)
     (λ c. search needs)

@@ -18,7 +18,7 @@ use Rattle.layout.specs.Chain.{Raster, sheetOf, readingAt, rows, statuses}
 use Rattle.layout.specs.Reading.{RasterNumbers, readNumbers, rejectedRaster, rasterRejection, rasterReading, pixelsAfter, marksAfter}
 use Rattle.layout.specs.PixelBytes.{bytesRejection, bytesReading, pixelBytesAfter, byteMarksAfter}
 use Rattle.layout.specs.laws.Chain.{length-rows, length-reading}
-use Rattle.decode_raster.specs.laws.Whole.{bytes-rejection}
+use Rattle.layout.specs.laws.PixelBytes.{bytes-rejection}
 use Rattle.isolation.specs.laws.Buffers.{row-there}
 use Rattle.two_c_readings.specs.Statement.{byteRow}
 

@@ -15,7 +15,7 @@ use Rattle.decode_body.proofs.byte_pixels.paint_byte_bytes.Tie as tie
 slice-aggregate-widen-words : tie.Need-slice-aggregate-widen-words
 slice-aggregate-widen-words c =
     let a = c .before .before .before .before .before .args in
-    sym (length-take-le (c .before .lesser .result) (a .body .now) (omega arith))
+    sym (length-take-le _ (a .body .now) (omega arith))
 
 returns : tie.Need-returns
 returns c =

@@ -15,7 +15,7 @@ use Rattle.decode_body.proofs.word_pixels.paint_word_bytes.Tie as tie
 slice-aggregate-copy : tie.Need-slice-aggregate-copy
 slice-aggregate-copy c =
     let a = c .before .before .before .before .before .before .before .args in
-    sym (length-take-le (c .before .words-to-bytes .result .0) (a .body .now) (omega arith))
+    sym (length-take-le _ (a .body .now) (omega arith))
 
 returns : tie.Need-returns
 returns c =
