@@ -73,6 +73,17 @@ pub fn clear(out: &mut [u8])
     }
 }
 
+// One value in every byte.
+pub fn fill_bytes(out: &mut [u8], v: u8)
+    ensures { λ _. ⌜ now (out .exit) ≡ replicate (length (now (out .entry))) v ⌝ }
+{
+    let mut i = 0;
+    while i < out.len() {
+        out[i] = v;
+        i += 1;
+    }
+}
+
 // Bytes to bytes.
 pub fn copy(from: &[u8], to: &mut [u8])
     ensures { λ _. ⌜ now (to .exit) ≡ over (now (from .entry)) (now (to .entry)) ⌝ }

@@ -1,16 +1,19 @@
 -- The loop over scanlines: what holds before scanline k, at its start, from turn to turn and at its end, however rows are stored.
 use Prim.Native.Nat.{ℕ, zero, suc, _+_, _-_, _*_, _≤_, _<_, zero-le}
 use mathlib.Core.Path.{_≡_, refl, sym, _∙_, ap, subst⁻¹}
-use mathlib.Core.Bool.{false}
-use mathlib.Core.List.{List, [], _∷_, _++_}
-use native.Mathlib.Nat.{zero-mul, suc-mul}
+use mathlib.Core.Bool.{true, false, not}
+use mathlib.Core.List.{List, [], _∷_, _++_, append-assoc, append-nil}
+use native.Mathlib.Nat.{add-zero, add-suc, zero-mul, suc-mul, add-mul}
 use native.Mathlib.Numerals.{add-one}
 use native.Mathlib.Omega.{arith}
-use lib.ListN.{length, drop, set, length-append, length-set}
+use lib.ListN.{length, drop, set, replicate, length-append, length-set, length-replicate, replicate-append-replicate}
+use borrow.Author.Tests.{not-true}
 use borrow.Rule.Slice.PartMut.{midOf, putMid, mid-len, same-len-mid}
 use Rattle.units.specs.laws.Parts.{row-within, replace-part, store-next}
-use Rattle.layout.specs.Chain.{Raster, start, reached, readingAt, rows, statuses, goodCount}
-use Rattle.layout.specs.laws.Chain.{length-reading, length-statuses}
+use Rattle.units.specs.Over.{zeros}
+use Rattle.layout.specs.Scanline.{Reading}
+use Rattle.layout.specs.Chain.{Raster, start, reached, readingAt, rows, statuses, oneIfGood, goodCount}
+use Rattle.layout.specs.laws.Chain.{reading-unreached, unreached-start, unreached-suc, length-reading, length-statuses, good-suc}
 use Rattle.decode_raster.specs.declared.Chain.{Chain}
 use Rattle.decode_raster.specs.laws.Answer.{Storing, Fits, ChainAt, Stepped}
 
@@ -101,3 +104,74 @@ pub lines-done : (r : Raster) (s : Storing (r .ppl)) (pixels₀ marks₀ pixels 
 lines-done r s pixels₀ marks₀ pixels marks c k l e =
     let d : LinesAt r s pixels₀ marks₀ pixels marks c (r .nol) = rw e at l in
     record { chain = d .chain; pixels-is = d .pixels-is; marks-is = d .marks-is }
+
+-- The scanlines after a lost one, all at once: their rows are zeros, their statuses 9.
+module _ (r : Raster) (k : ℕ) (u : reached r k ≡ false) where
+  rest-reached : (m : ℕ) → reached r (k + m) ≡ false
+  rest-reached zero = rw (add-zero k) u
+  rest-reached (suc m) = rw (add-suc k m) (unreached-suc r (k + m) (rest-reached m))
+
+  rest-start : (m : ℕ) → start r (k + m) ≡ start r k
+  rest-start zero = rw (add-zero k)
+  rest-start (suc m) = rw (add-suc k m) (unreached-start r (k + m) (rest-reached m) ∙ rest-start m)
+
+  rest-good : (m : ℕ) → goodCount r (k + m) ≡ goodCount r k
+  rest-good zero = rw (add-zero k)
+  rest-good (suc m) =
+      rw (add-suc k m)
+      (good-suc r (k + m)
+      ∙ ap (λ (x : Reading). goodCount r (k + m) + oneIfGood (x .status)) (reading-unreached r (k + m) (rest-reached m))
+      ∙ add-zero (goodCount r (k + m))
+      ∙ rest-good m)
+
+  rest-rows : (m : ℕ) → rows r (k + m) ≡ rows r k ++ zeros (m * r .ppl)
+  unfolding rows
+  rest-rows zero = rw (add-zero k, zero-mul (r .ppl)) (sym (append-nil (rows r k)))
+  rest-rows (suc m) =
+      rw (add-suc k m, reading-unreached r (k + m) (rest-reached m), rest-rows m, suc-mul m (r .ppl))
+      (append-assoc (rows r k) (zeros (m * r .ppl)) (zeros (r .ppl))
+      ∙ ap (λ (l : List ℕ). rows r k ++ l) (replicate-append-replicate (m * r .ppl) (r .ppl) 0))
+
+  rest-statuses : (m : ℕ) → statuses r (k + m) ≡ statuses r k ++ replicate m 9
+  unfolding statuses
+  rest-statuses zero = rw (add-zero k) (sym (append-nil (statuses r k)))
+  rest-statuses (suc m) =
+      rw (add-suc k m, reading-unreached r (k + m) (rest-reached m), rest-statuses m)
+      (append-assoc (statuses r k) (replicate m 9) (9 ∷ [])
+      ∙ ap (λ (l : List ℕ). statuses r k ++ l) (replicate-append-replicate m 1 9 ∙ ap (λ (n : ℕ). replicate n 9) (add-one m)))
+
+module _ (r : Raster) (s : Storing (r .ppl)) (pixels₀ marks₀ pixels marks : List ℕ) (c : Chain) (k : ℕ) (now : LinesAt r s pixels₀ marks₀ pixels marks c k)
+    (more : k < r .nol) (room : Fits r (s .width) (length pixels₀) (length marks₀)) where
+  pub lines-lost : c .lost ≡ true
+      → Done r s pixels₀ marks₀ (putMid (k * s .width) (r .nol * s .width - k * s .width) pixels (zeros (r .nol * s .width - k * s .width)))
+      (putMid k (r .nol - k) marks (replicate (r .nol - k) 9)) c
+  lines-lost lost =
+      let w = s .width in
+      let n = r .nol in
+      let m = n - k in
+      let all : k + m ≡ n = omega arith in
+      let wide : n * w ≡ k * w + m * w = ap (λ (i : ℕ). i * w) (sym all) ∙ add-mul k m w in
+      let q : n * w - k * w ≡ m * w = omega arith in
+      let u : reached r k ≡ false = not-true (reached r k) (sym (now .chain .lost) ∙ lost) in
+      let z : length (zeros (m * w)) ≡ m * w = length-replicate (m * w) 0 in
+      let nines : length (replicate {A = ℕ} m 9) ≡ m = length-replicate m 9 in
+      record {
+        chain =
+            record {
+              at = now .chain .at ∙ sym (rest-start r k u m) ∙ ap (start r) all;
+              lost = lost ∙ sym (ap not (ap (reached r) (sym all) ∙ rest-reached r k u m));
+              good = now .chain .good ∙ sym (rest-good r k u m) ∙ ap (goodCount r) all;
+            };
+        pixels-is =
+            ap (λ (y : List ℕ). putMid (k * w) (n * w - k * w) y (zeros (n * w - k * w))) (now .pixels-is)
+            ∙ ap (λ (i : ℕ). putMid (k * w) (n * w - k * w) (s .image (rows r k) ++ drop (k * w) pixels₀) (zeros i)) q
+            ∙ replace-part (s .image (rows r k)) (zeros (m * w)) pixels₀ (k * w) (n * w) (rows-width r s k) (omega arith) (room .pixels-fit)
+            ∙ ap (λ (y : List ℕ). y ++ drop (n * w) pixels₀)
+            (ap (λ (y : List ℕ). s .image (rows r k) ++ y) (sym (s .blank m))
+            ∙ sym (s .more (rows r k) (zeros (m * r .ppl)))
+            ∙ ap (s .image) (sym (rest-rows r k u m) ∙ ap (rows r) all));
+        marks-is =
+            ap (λ (y : List ℕ). putMid k m y (replicate m 9)) (now .marks-is)
+            ∙ replace-part (statuses r k) (replicate m 9) marks₀ k n (length-statuses r k) (omega arith) (room .marks-fit)
+            ∙ ap (λ (y : List ℕ). y ++ drop n marks₀) (sym (rest-statuses r k u m) ∙ ap (statuses r) all);
+      }

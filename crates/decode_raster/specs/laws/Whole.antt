@@ -20,7 +20,7 @@ use Rattle.layout.specs.Reading.{bufferRules, rasterRejection, answerOf, readNu
 use Rattle.layout.specs.PixelBytes.{bytesRejection, bytesReading, pixelBytesAfter, byteMarksAfter}
 use Rattle.layout.specs.laws.PixelBytes.{bytes-rejection}
 use Rattle.decode_raster.specs.declared.Chain.{Chain}
-use Rattle.decode_raster.specs.laws.Answer.{asPixels, asBytes, Fits, ChainAt}
+use Rattle.decode_raster.specs.laws.Answer.{asPixels, asBytes, rows-bytes, Fits, ChainAt}
 use Rattle.decode_raster.specs.laws.Lines.{Done}
 
 -- the file's number, or that of the first buffer that is too short
@@ -93,10 +93,6 @@ module _ (f pixels marks : List ℕ) {n : ℕ} (number : n ≡ rasterRejection f
         (rw t (read-answer f l read c (d .chain) a answer), (rw t (d .pixels-is), rw t (d .marks-is)))
 
 -- Into bytes: as for as many pixels as there is room for.
-pub rows-bytes : (n p : ℕ) → n * wordBytes p ≡ wordBytes (n * p)
-rows-bytes zero p = rw (zero-mul (2 * p), zero-mul p)
-rows-bytes (suc n) p = omega (arith, suc-mul n (2 * p), suc-mul n p, rows-bytes n p)
-
 module _ (f pixels marks : List ℕ) {n : ℕ} (number : n ≡ rasterRejection f (length pixels / 2) (length marks)) where
   by-bytes : n ≡ bytesRejection f (length pixels) (length marks)
   by-bytes = number ∙ sym (bytes-rejection f (length pixels) (length marks))

@@ -1,22 +1,26 @@
 use borrow.Author.Needs.{needs}
 use Prim.Native.Nat.{ℕ, _+_, _-_, _*_, _≤_}
-use mathlib.Core.Path.{_≡_, sym, _∙_, subst}
+use mathlib.Core.Path.{_≡_, sym, _∙_, ap, subst}
+use mathlib.Core.List.{List}
+use native.Mathlib.Nat.{le-refl}
 use native.Mathlib.Omega.{arith}
-use lib.ListN.{length, set}
-use borrow.Rule.Slice.PartMut.{midOf, putMid}
+use lib.ListN.{length, replicate, set}
+use borrow.Rule.Slice.PartMut.{midOf, putMid, mid-len, same-len-mid}
 use Rattle.units.specs.Counts.{wordBytes}
+use Rattle.units.specs.Over.{zeros}
+use Rattle.units.specs.laws.Parts.{row-within}
 use Rattle.layout.specs.Chain.{rasterOf}
 use Rattle.decode_raster.specs.laws.Answer.{asBytes}
-use Rattle.decode_raster.specs.laws.Lines.{LinesAt, lines-first, row-fits, lent-length, lines-next, lines-done}
+use Rattle.decode_raster.specs.laws.Lines.{LinesAt, Done, lines-first, row-fits, lent-length, lines-next, lines-lost, lines-done}
 use Rattle.decode_raster_bytes.proofs.read_lines.Statement.{statement}
 use Rattle.decode_raster_bytes.proofs.read_lines.Tie as tie
 
 abbrev Inv-loop : tie.InvT-loop
-Inv-loop bytes l pixels₀ marks₀ width n chain₀ k₀ pixels marks chain k =
+Inv-loop bytes l pixels₀ marks₀ width n end chain₀ k₀ pixels marks chain k =
     LinesAt (rasterOf l bytes) (asBytes (l .ppl)) pixels₀ marks₀ pixels marks chain k
 
 abbrev μ-loop : tie.MeasureT-loop
-μ-loop bytes l pixels₀ marks₀ width n chain₀ k₀ pixels marks chain k = n - k
+μ-loop bytes l pixels₀ marks₀ width n end chain₀ k₀ pixels marks chain k = n - k
 
 -- the bytes of a row
 width-is : (c : tie.At-loop Inv-loop μ-loop) → c .before .before .words-to-bytes .result .0 ≡ wordBytes (c .before .before .before .before .before .before .before .args .l .ppl)
@@ -41,6 +45,28 @@ all-rows c =
     let s = c .before .before .before .before .before .before .before .before in
     subst (λ (w : ℕ). s .args .l .nol * w ≤ length (s .args .pixels .now)) (sym (width-is (c .before))) (s .pre .pixels-fit)
 
+-- and those from row k on
+rest-rows : (c : tie.In-loop Inv-loop μ-loop)
+    → let w = c .before .before .before .words-to-bytes .result .0 in c .before .loop .k * w ≤ c .before .before .before .before .before .before .before .before .args .l .nol * w
+rest-rows c =
+    let w = c .before .before .before .words-to-bytes .result .0 in
+    let n = c .before .before .before .before .before .before .before .before .args .l .nol in
+    omega (arith, row-within (c .before .loop .k) n w (n * w) (c .loop-test .taken) (le-refl (n * w)))
+
+rest-fit : (c : tie.In-loop Inv-loop μ-loop)
+    → c .before .before .before .before .before .before .before .before .args .l .nol * c .before .before .before .words-to-bytes .result .0 ≤ length (c .before .loop .pixels)
+rest-fit c = omega (arith, all-rows c, c .before .loop .inv .pixels-length)
+
+marks-fit : (c : tie.In-loop Inv-loop μ-loop) → c .before .before .before .before .before .before .before .before .args .l .nol ≤ length (c .before .loop .marks)
+marks-fit c = omega (arith, c .before .before .before .before .before .before .before .before .pre .marks-fit, c .before .loop .inv .marks-length)
+
+mul-end : tie.Need-mul-end Inv-loop μ-loop
+mul-end c =
+    let s = c .before .before .before .before .before .before in
+    let w : c .before .words-to-bytes .result .0 ≡ wordBytes (s .args .l .ppl) = omega (arith, s .good) in
+    let fit = subst (λ (x : ℕ). s .args .l .nol * x ≤ length (s .args .pixels .now)) (sym w) (s .pre .pixels-fit) in
+    omega (arith, fit, s .good)
+
 loop-holds : tie.Need-loop-holds Inv-loop μ-loop
 loop-holds c =
     let a = c .before .before .before .before .before .before .args in
@@ -50,33 +76,97 @@ mul-from : tie.Need-mul-from Inv-loop μ-loop
 mul-from c = omega (arith, room c, all-rows c)
 
 add-to : tie.Need-add-to Inv-loop μ-loop
-add-to c = omega (arith, room c, all-rows c)
+add-to c = omega (arith, room (c .before), all-rows (c .before))
+
+sub-clear : tie.Need-sub-clear Inv-loop μ-loop
+sub-clear c = omega (arith, rest-rows (c .before))
+
+part-clear-start : tie.Need-part-clear-start Inv-loop μ-loop
+part-clear-start c = omega (arith, rest-rows (c .before))
+
+part-clear-end : tie.Need-part-clear-end Inv-loop μ-loop
+part-clear-end c = omega (arith, rest-fit (c .before))
+
+sub-fill-bytes : tie.Need-sub-fill-bytes Inv-loop μ-loop
+sub-fill-bytes c = omega (arith, c .before .before .before .before .before .loop-test .taken)
+
+part-fill-bytes-start : tie.Need-part-fill-bytes-start Inv-loop μ-loop
+part-fill-bytes-start c = omega (arith, c .before .before .before .before .before .loop-test .taken)
+
+part-fill-bytes-end : tie.Need-part-fill-bytes-end Inv-loop μ-loop
+part-fill-bytes-end c = omega (arith, marks-fit (c .before .before .before .before .before))
+
+-- what the rest is filled with
+blank-rows : (c : tie.After-slice-known4 Inv-loop μ-loop)
+    → let i = c .before .before .before .before .before .before .before .before .before in
+    let w = i .before .before .before .words-to-bytes .result .0 in
+    let n = i .before .before .before .before .before .before .before .before .args .l .nol in
+    c .before .before .before .before .before .before .clear .last .0 ≡ zeros (n * w - i .before .loop .k * w)
+blank-rows c =
+    let i = c .before .before .before .before .before .before .before .before .before in
+    let w = i .before .before .before .words-to-bytes .result .0 in
+    let n = i .before .before .before .before .before .before .before .before .args .l .nol in
+    c .before .before .before .before .before .before .clear .ensures ∙ ap zeros (mid-len (i .before .loop .k * w) (n * w) (i .before .loop .pixels) (rest-fit i))
+
+lost-marks : (c : tie.After-slice-known4 Inv-loop μ-loop)
+    → let i = c .before .before .before .before .before .before .before .before .before in c .before .before .fill-bytes .last .0 ≡ replicate (i .before .before .before .before .before .before .before .before .args .l .nol - i .before .loop .k) 9
+lost-marks c =
+    let i = c .before .before .before .before .before .before .before .before .before in
+    let n = i .before .before .before .before .before .before .before .before .args .l .nol in
+    c .before .before .fill-bytes .ensures ∙ ap (λ (m : ℕ). replicate m 9) (mid-len (i .before .loop .k) n (i .before .loop .marks) (marks-fit i))
+
+same-length : tie.Need-same-length Inv-loop μ-loop
+same-length c = c .before .before .before .before .before .pixels .given .1 ∙ c .before .before .before .before .before .before .before .before .before .before .loop .inv .pixels-length
+
+same-length-2 : tie.Need-same-length-2 Inv-loop μ-loop
+same-length-2 c = c .before .marks .given .1 ∙ c .before .before .before .before .before .before .before .before .before .before .loop .inv .marks-length
+
+returns : tie.Need-returns Inv-loop μ-loop
+returns c =
+    let t = c .before .before .before .before .before .before .before .before in
+    let i = t .before in
+    let l = i .before .loop in
+    let s = i .before .before .before .before .before .before .before .before in
+    let r = rasterOf (s .args .l) (s .args .bytes .now) in
+    let v = asBytes (s .args .l .ppl) in
+    let n = s .args .l .nol in
+    let w = i .before .before .before .words-to-bytes .result .0 in
+    subst (λ (x : List ℕ). Done r v (s .args .pixels .now) (s .args .marks .now) (putMid (l .k * w) (n * w - l .k * w) (l .pixels) x) (putMid (l .k) (n - l .k) (l .marks) (c .before .before .fill-bytes .last .0)) (l .chain))
+    (sym (blank-rows c))
+    (subst (λ (y : List ℕ). Done r v (s .args .pixels .now) (s .args .marks .now) (putMid (l .k * w) (n * w - l .k * w) (l .pixels) (zeros (n * w - l .k * w))) (putMid (l .k) (n - l .k) (l .marks) y) (l .chain))
+    (sym (lost-marks c))
+    (subst (λ (x : ℕ). Done r v (s .args .pixels .now) (s .args .marks .now) (putMid (l .k * x) (n * x - l .k * x) (l .pixels) (zeros (n * x - l .k * x))) (putMid (l .k) (n - l .k) (l .marks) (replicate (n - l .k) 9)) (l .chain))
+    (sym (width-is (i .before)))
+    (lines-lost r v (s .args .pixels .now) (s .args .marks .now) (l .pixels) (l .marks) (l .chain) (l .k) (l .inv) (i .loop-test .taken) (s .pre) (t .if1 .taken))))
 
 sub-read-line : tie.Need-sub-read-line Inv-loop μ-loop
-sub-read-line c = omega (arith, room c)
+sub-read-line c = omega (arith, room (c .before))
 
 part-read-line-start : tie.Need-part-read-line-start Inv-loop μ-loop
-part-read-line-start c = omega (arith, room c)
+part-read-line-start c = omega (arith, room (c .before))
 
 part-read-line-end : tie.Need-part-read-line-end Inv-loop μ-loop
-part-read-line-end c = omega (arith, room c)
+part-read-line-end c = omega (arith, room (c .before))
 
 read-line-requires : tie.Need-read-line-requires Inv-loop μ-loop
 read-line-requires c κs =
-    let l = c .before .before .loop in
-    let s = c .before .before .before .before .before .before .before .before .before in
+    let l = c .before .before .before .loop in
+    let s = c .before .before .before .before .before .before .before .before .before .before in
     let r = rasterOf (s .args .l) (s .args .bytes .now) in
-    let m = c .before .loop-test .taken in (
+    let m = c .before .before .loop-test .taken in (
       s .pre .starts,
       (
         s .pre .nol-most,
         (
           l .inv .chain,
           (
-            m,
-            subst (λ (w : ℕ). length (midOf (l .k * w) (l .k * w + w - l .k * w) (l .pixels)) ≡ wordBytes (s .args .l .ppl))
-                (sym (width-is (c .before .before)))
-                (lent-length r (asBytes (s .args .l .ppl)) (s .args .pixels .now) (s .args .marks .now) (l .pixels) (l .marks) (l .chain) (l .k) (l .inv) m (s .pre)),
+            c .before .if1 .left,
+            (
+              m,
+              subst (λ (w : ℕ). length (midOf (l .k * w) (l .k * w + w - l .k * w) (l .pixels)) ≡ wordBytes (s .args .l .ppl))
+                  (sym (width-is (c .before .before .before)))
+                  (lent-length r (asBytes (s .args .l .ppl)) (s .args .pixels .now) (s .args .marks .now) (l .pixels) (l .marks) (l .chain) (l .k) (l .inv) m (s .pre)),
+            ),
           ),
         ),
       ),
@@ -84,21 +174,21 @@ read-line-requires c κs =
 
 slice-write-marks : tie.Need-slice-write-marks Inv-loop μ-loop
 slice-write-marks c =
-    let t = c .before .before .before .before in
+    let t = c .before .before .before .before .before in
     let l = t .before .loop in
     let s = t .before .before .before .before .before .before .before .before in
     omega (arith, s .pre .marks-fit, l .inv .marks-length, t .loop-test .taken)
 
 add-k : tie.Need-add-k Inv-loop μ-loop
-add-k c = omega (arith, c .before .before .before .before .loop-test .taken, c .before .before .before .before .before .before .before .before .before .before .before .before .pre .nol-most)
+add-k c = omega (arith, c .before .before .before .before .before .loop-test .taken, c .before .before .before .before .before .before .before .before .before .before .before .before .before .pre .nol-most)
 
 loop-less : tie.Need-loop-less Inv-loop μ-loop
-loop-less c = omega (arith, c .before .before .before .before .loop-test .taken)
+loop-less c = omega (arith, c .before .before .before .before .before .loop-test .taken)
 
 loop-again : tie.Need-loop-again Inv-loop μ-loop
 loop-again c =
     let y = c .before .before in
-    let t = y .before .before in
+    let t = y .before .before .before in
     let l = t .before .loop in
     let s = t .before .before .before .before .before .before .before .before in
     let r = rasterOf (s .args .l) (s .args .bytes .now) in
@@ -112,14 +202,14 @@ loop-again c =
     (lines-next r (asBytes (s .args .l .ppl)) (s .args .pixels .now) (s .args .marks .now) (l .pixels) (l .marks) (l .chain) (l .k) (l .inv) (t .loop-test .taken) (s .pre)
     d row (y .read-line .ensures))
 
-same-length : tie.Need-same-length Inv-loop μ-loop
-same-length c = c .before .loop .inv .pixels-length
+same-length-3 : tie.Need-same-length-3 Inv-loop μ-loop
+same-length-3 c = c .before .loop .inv .pixels-length
 
-same-length-2 : tie.Need-same-length-2 Inv-loop μ-loop
-same-length-2 c = c .before .loop .inv .marks-length
+same-length-4 : tie.Need-same-length-4 Inv-loop μ-loop
+same-length-4 c = c .before .loop .inv .marks-length
 
-returns : tie.Need-returns Inv-loop μ-loop
-returns c =
+returns-2 : tie.Need-returns-2 Inv-loop μ-loop
+returns-2 c =
     let l = c .before .loop in
     let a = c .before .before .before .before .before .before .before .before .args in
     let e : l .k ≡ a .l .nol = omega (arith, l .inv .low, c .loop-test .left) in
@@ -134,8 +224,20 @@ read-lines-spec =
     (λ c. search needs)
     (λ c κs. search needs)
     (λ c. search needs)
+    mul-end
     loop-holds
     mul-from
+    sub-clear
+    part-clear-start
+    part-clear-end
+    (λ c κs. search needs)
+    sub-fill-bytes
+    part-fill-bytes-start
+    part-fill-bytes-end
+    (λ c κs. search needs)
+    same-length
+    same-length-2
+    returns
     add-to
     sub-read-line
     part-read-line-start
@@ -145,6 +247,6 @@ read-lines-spec =
     add-k
     loop-less
     loop-again
-    same-length
-    same-length-2
-    returns)
+    same-length-3
+    same-length-4
+    returns-2)

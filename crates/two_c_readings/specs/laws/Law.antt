@@ -21,7 +21,7 @@ use Rattle.layout.specs.laws.Chain.{length-statuses, good-most}
 use Rattle.header.specs.laws.Accepted.{accepted}
 use Rattle.units.specs.laws.Stores.{zero-bytes}
 use Rattle.layout.specs.laws.PixelBytes.{half-below}
-use Rattle.decode_raster.specs.laws.Whole.{rows-bytes}
+use Rattle.decode_raster.specs.laws.Answer.{rows-bytes}
 use Rattle.isolation.specs.Statement.{ChangedInBodies, OneReading, TwoReadings, SameLine, Isolated, bufferRejection}
 use Rattle.isolation.specs.laws.OneFile.{withBytes}
 use Rattle.isolation.specs.laws.TwoFiles.{same-sheet}
