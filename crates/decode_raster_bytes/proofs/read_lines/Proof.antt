@@ -82,10 +82,10 @@ sub-clear : tie.Need-sub-clear Inv-loop μ-loop
 sub-clear c = omega (arith, rest-rows (c .before))
 
 part-clear-start : tie.Need-part-clear-start Inv-loop μ-loop
-part-clear-start c = omega (arith, rest-rows (c .before))
+part-clear-start c = omega (arith, rest-rows (c .before), rest-fit (c .before))
 
 part-clear-end : tie.Need-part-clear-end Inv-loop μ-loop
-part-clear-end c = omega (arith, rest-fit (c .before))
+part-clear-end c = omega (arith, rest-rows (c .before), rest-fit (c .before))
 
 sub-fill-bytes : tie.Need-sub-fill-bytes Inv-loop μ-loop
 sub-fill-bytes c = omega (arith, c .before .before .before .before .before .loop-test .taken)
