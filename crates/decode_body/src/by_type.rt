@@ -1,7 +1,7 @@
-// The body of a scanline, by data type. A data type that has no codec has the status 16, and nothing of it is stored.
+// The body of a scanline, by data type. A data type that has no codec has the status 16, and no pixel of it is stored.
 ghost use mathlib.Core.Path.{_≡_};
 ghost use lib.ListN.{length};
-ghost use Rattle.units.specs.Over.{over};
+ghost use Rattle.units.specs.Over.{over, zeros};
 ghost use Rattle.units.specs.Rules.{first};
 ghost use Rattle.units.specs.Words.{wordCount, wordsToBytes};
 ghost use Rattle.codec.specs.Table.{bodyRules, bodyPixels, bodyExtent};
@@ -21,6 +21,7 @@ use decode_runs::paint_run_bytes;
 use decode_runs::paint_runs;
 use decode_runs::runs_extent;
 use decode_runs::runs_status;
+use slices::clear;
 use slices::widen;
 use units::load_words;
 
@@ -63,15 +64,15 @@ pub fn paint_body(dtc: u16, body: &[u8], row: &mut [u16])
     }
 }
 
-// The same where each pixel is stored as two bytes, low byte first.
+// The same where each pixel is stored as two bytes, low byte first, and what is left of the row is cleared.
 pub fn paint_body_bytes(dtc: u16, body: &[u8], row: &mut [u8])
-    ensures { λ _. ⌜ now (row .exit) ≡ over (wordsToBytes (bodyPixels dtc (now (body .entry)) (wordCount (now (row .entry)) .0))) (now (row .entry)) ⌝ }
+    ensures { λ _. ⌜ now (row .exit) ≡ over (wordsToBytes (bodyPixels dtc (now (body .entry)) (wordCount (now (row .entry)) .0))) (zeros (length (now (row .entry)))) ⌝ }
 {
     match dtc {
         2 => paint_byte_bytes(body, row),
         3 => paint_word_bytes(body, row),
         9 => paint_run_bytes(body, row),
         10 => paint_pair_bytes(body, row),
-        _ => {}
+        _ => clear(row),
     }
 }

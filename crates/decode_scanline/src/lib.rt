@@ -60,15 +60,15 @@ pub fn read_scanline_bytes(scn: u8, dtc: u16, number: u16, rest: &[u8], row: &mu
     ensures { λ _. ⌜ now (row .exit) ≡ over (wordsToBytes (readingOf scn dtc (wordCount (now (row .entry)) .0) number (now (rest .entry)) .row)) (now (row .entry)) ⌝ }
 {
     let p = bytes_to_words(Bytes(row.len())).0;
+    let end = words_to_bytes(Words(p)).0;
     let line = scan_scanline(scn, dtc, number, p, rest);
     if line.status != 0 {
-        let end = words_to_bytes(Words(p)).0;
         clear(&mut row[..end]);
         return line;
     }
     let from = body_start(scn);
     let to = line.used.0;
-    paint_body_bytes(dtc, &rest[from..to], row);
+    paint_body_bytes(dtc, &rest[from..to], &mut row[..end]);
     line
 }
 

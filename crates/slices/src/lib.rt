@@ -2,8 +2,10 @@
 //
 // A copy goes as far as both slices do: what lies behind it in the buffer stays.
 ghost use mathlib.Core.Path.{_≡_};
-ghost use Prim.Native.Nat.{_+_, min};
+ghost use mathlib.Core.Bool.{_&&_};
+ghost use Prim.Native.Nat.{_+_, min, max};
 ghost use lib.ListN.{length, replicate};
+ghost use lib.Dec.{leb};
 ghost use lib.Seq.{sets};
 ghost use Rattle.units.specs.Counts.{wordBytes};
 ghost use Rattle.units.specs.LittleEndian.{lowBytes};
@@ -12,6 +14,7 @@ ghost use Rattle.units.specs.Words.{wordsToBytes};
 use units::Words;
 use units::fill_words;
 use units::lesser;
+use units::put_long;
 use units::words_to_bytes;
 
 // One value in every place of a row of pixels.
@@ -38,17 +41,54 @@ pub fn put_run(row: &mut [u16], at: usize, n: usize, v: u16) -> usize
     end
 }
 
-// The same where each pixel is stored as two bytes, low byte first: `at` and the answer are places of bytes.
+// The same where each pixel is stored as two bytes, low byte first: `at` and the answer are places of bytes. At least eight pixels are
+// stored, as far as the row goes, so that a short run, of whatever length, is one store: the next run goes over what it has too much.
 pub fn put_run_bytes(row: &mut [u8], at: usize, n: usize, v: u16) -> usize
     ensures { λ r. ⌜ r ≡ min (at + wordBytes n) (length (now (row .entry))) ⌝ }
-    ensures { λ _. ⌜ now (row .exit) ≡ sets (now (row .entry)) at (wordsToBytes (replicate n v)) ⌝ }
+    ensures { λ _. ⌜ now (row .exit) ≡ sets (now (row .entry)) at (wordsToBytes (replicate (max n 8) v)) ⌝ }
 {
     if row.len() <= at {
         return row.len();
     }
-    let end = at + lesser(words_to_bytes(Words(n)).0, row.len() - at);
+    let room = row.len() - at;
+    if is_short(n, room) {
+        let eight = at + 16;
+        fill_eight(&mut row[at..eight], v);
+        return at + words_to_bytes(Words(n)).0;
+    }
+    let end = at + lesser(words_to_bytes(Words(at_least_eight(n))).0, room);
     fill_pixels(&mut row[at..end], v);
-    end
+    at + lesser(words_to_bytes(Words(n)).0, room)
+}
+
+fn at_least_eight(n: usize) -> usize
+    ensures { λ r. ⌜ r ≡ max n 8 ⌝ }
+{
+    if n < 8 { 8 } else { n }
+}
+
+// Whether a run of n pixels has no more than eight, and these have room.
+fn is_short(n: usize, room: usize) -> bool
+    ensures { λ r. ⌜ r ≡ (leb n 8 && leb 16 room) ⌝ }
+{
+    if 8 < n {
+        return false;
+    }
+    16 <= room
+}
+
+// One value in eight pixels: four of them are one number of 64 bits, and two such numbers are stored.
+fn fill_eight(out: &mut [u8], v: u16)
+    requires { ⌜ length (now out) ≡ 16 ⌝ }
+    ensures { λ _. ⌜ now (out .exit) ≡ wordsToBytes (replicate 8 v) ⌝ }
+{
+    let four = (v as u64) * 0x0001000100010001;
+    let low = (four % 4294967296) as u32;
+    let high = (four / 4294967296) as u32;
+    put_long(out, 0, low);
+    put_long(out, 4, high);
+    put_long(out, 8, low);
+    put_long(out, 12, high);
 }
 
 // One value in every pixel of a row of bytes, as far as it goes. Zeros, the commonest, are cleared: that is the faster way.

@@ -1,6 +1,5 @@
 // The words of a slice of bytes, low byte first: counted, found, loaded and stored.
 ghost use mathlib.Core.Path.{_≡_};
-ghost use Prim.Native.Nat.{_≤_};
 ghost use lib.ListN.{length, replicate, set};
 ghost use lib.Seq.{sets};
 ghost use Rattle.units.specs.LittleEndian.{u32Bytes};
@@ -63,10 +62,6 @@ pub fn store_words(from: &[u16], to: &mut [u8])
 pub fn fill_words(out: &mut [u8], w: u16)
     ensures { λ _. ⌜ now (out .exit) ≡ over (wordsToBytes (replicate (length (now (out .entry))) w)) (now (out .entry)) ⌝ }
 {
-    if out.len() <= 16 {
-        fill_short(out, w);
-        return;
-    }
     let low = (w % 256) as u8;
     let high = (w / 256) as u8;
     // those that fit whole
@@ -78,22 +73,6 @@ pub fn fill_words(out: &mut [u8], w: u16)
         i += 1;
     }
     put_word(out, 2 * n, w);
-}
-
-// The same for eight words at most, as one copy: a loop over so few would take longer to begin and to end than to store.
-fn fill_short(out: &mut [u8], w: u16)
-    requires { ⌜ length (now out) ≤ 16 ⌝ }
-    ensures { λ _. ⌜ now (out .exit) ≡ over (wordsToBytes (replicate (length (now (out .entry))) w)) (now (out .entry)) ⌝ }
-{
-    let a = (w % 256) as u8;
-    let b = (w / 256) as u8;
-    let words = [a, b, a, b, a, b, a, b, a, b, a, b, a, b, a, b];
-    let n = out.len();
-    let mut i = 0;
-    while i < n {
-        out[i] = words[i];
-        i += 1;
-    }
 }
 
 // Stores bytes as words from the start of a buffer on, as far as it goes.

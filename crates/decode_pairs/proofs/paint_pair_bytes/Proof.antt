@@ -1,13 +1,12 @@
 use borrow.Author.Needs.{needs}
-use lib.ListN.{length, drop, replicate}
-use lib.Seq.{sets, length-sets}
+use lib.ListN.{length, drop}
+use lib.Seq.{sets}
 use native.Mathlib.Omega.{arith}
 use Prim.Native.Nat.{_+_, _-_, _≤_, zero-le}
-use mathlib.Core.Path.{_≡_, refl, _∙_, ap}
-use Rattle.units.specs.Over.{over}
+use mathlib.Core.Path.{_≡_, refl, _∙_}
+use Rattle.units.specs.Over.{over, zeros}
 use Rattle.units.specs.Words.{words, wordsToBytes}
-use Rattle.units.specs.laws.Over.{sets-over}
-use Rattle.slices.specs.laws.Painting.{run-next-bytes}
+use Rattle.slices.specs.laws.Painting.{blankFrom, run-next-blank, blank-first, blank-last}
 use Rattle.codec.specs.PairPixels.{pairPixels}
 use Rattle.codec.specs.laws.PairReading.{pair-pixels, end-pixels}
 use Rattle.decode_pairs.proofs.paint_pair_bytes.Statement.{statement}
@@ -15,14 +14,14 @@ use Rattle.decode_pairs.proofs.paint_pair_bytes.Tie as tie
 
 abbrev Inv-loop : tie.InvT-loop
 Inv-loop body row₀ size at₀ i₀ row at i =
-    (i ≤ length body) × (length row ≡ length row₀)
-    × (sets row at (wordsToBytes (pairPixels (words (drop i body)))) ≡ over (wordsToBytes (pairPixels (words body))) row₀)
+    (i ≤ length body) × (length row ≡ length row₀) × (at ≤ length row)
+    × (sets (blankFrom at row) at (wordsToBytes (pairPixels (words (drop i body)))) ≡ over (wordsToBytes (pairPixels (words body))) (zeros (length row₀)))
 
 abbrev μ-loop : tie.MeasureT-loop
 μ-loop body row₀ size at₀ i₀ row at i = length body - i
 
 loop-holds : tie.Need-loop-holds Inv-loop μ-loop
-loop-holds c = (zero-le, refl, sets-over _ _)
+loop-holds c = (zero-le, refl, zero-le, blank-first (c .before .before .args .row .now) _)
 
 loop-again : tie.Need-loop-again Inv-loop μ-loop
 loop-again c =
@@ -33,17 +32,19 @@ loop-again c =
     let b = v .before .before .before .before .before .args .body .now in
     let more = v .before .loop-test .taken in (
       more,
-      ap length (p .ensures .1) ∙ length-sets (l .row) (l .at) (wordsToBytes (replicate (n .u16-at2 .result) (v .u16-at .result))) ∙ l .inv .1,
-      run-next-bytes (l .row) (l .at) (n .u16-at2 .result) (v .u16-at .result) (pairPixels (words (drop (l .i) b))) (pairPixels (words (drop (l .i + 4) b))) _
-          (rw (v .u16-at .ensures, n .u16-at2 .ensures) (pair-pixels b (l .i) more)) (p .ensures .0) (p .ensures .1) (l .inv .2),
+      c .before .row .given ∙ l .inv .1,
+      omega (arith, p .ensures .0, c .before .row .given),
+      run-next-blank (l .row) (l .at) (n .u16-at2 .result) (v .u16-at .result) (pairPixels (words (drop (l .i) b))) (pairPixels (words (drop (l .i + 4) b))) _
+          (rw (v .u16-at .ensures, n .u16-at2 .ensures) (pair-pixels b (l .i) more)) (l .inv .2) (p .ensures .0) (p .ensures .1) (l .inv .3),
     )
 
 returns : tie.Need-returns Inv-loop μ-loop
 unfolding wordsToBytes
 returns c =
-    let l = c .before .loop in
-    let b = c .before .before .before .before .args .body .now in
-    rw (end-pixels b (l .i) (c .loop-test .left)) at (l .inv .2)
+    let e = c .before .before .before .before in
+    let l = e .before .loop in
+    let b = e .before .before .before .before .args .body .now in
+    blank-last (l .row) _ (l .at) (l .inv .2) (c .before .before .clear .ensures) ∙ (rw (end-pixels b (l .i) (e .loop-test .left)) at (l .inv .3))
 
 pub paint-pair-bytes-spec : {M : Type 1} → statement M
 paint-pair-bytes-spec =
@@ -61,5 +62,9 @@ paint-pair-bytes-spec =
     (λ c. omega arith)
     (λ c. omega arith)
     loop-again
-    (λ c. omega arith)
+    (λ c. search needs)
+    (λ c. search needs)
+    (λ c. search needs)
+    (λ c κs. search needs)
+    (λ c. search needs)
     returns)

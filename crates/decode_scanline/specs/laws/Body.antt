@@ -15,7 +15,7 @@ use Rattle.units.specs.Counts.{bytesOfWords, wordBytes}
 use Rattle.units.specs.Over.{over, zeros}
 use Rattle.units.specs.Words.{wordsToBytes}
 use Rattle.units.specs.laws.Over.{over-full, over-fits}
-use Rattle.units.specs.laws.Stores.{zero-bytes}
+use Rattle.units.specs.laws.Stores.{length-bytes, zero-bytes}
 use Rattle.layout.specs.Scanline.{Reading, Step, headOf, bodyOf, following, reading, headedReading, openReading, headedStep, openStep, stepOf, readingOf}
 use Rattle.layout.specs.laws.Line.{NotLost, not-lost, is-not-lost, no-fault, row-by-status, length-row}
 use Rattle.decode_scanline.specs.declared.Scanline.{Scanline}
@@ -85,10 +85,19 @@ module _ (scn t p number : ℕ) (rest : List ℕ) where
         ∙ over-full (readingOf scn t p number rest .row) old (omega arith)
         ∙ take-all (length old) (readingOf scn t p number rest .row) (omega arith)
 
-    pub painted-bytes : {from : ℕ} (old : List ℕ) → from ≡ bodyStart scn → r .status ≡ 0
-        → over (wordsToBytes (bodyPixels t (take (r .used .0 - from) (drop from rest)) p)) old
+    -- the bytes of a row are painted as far as it has pixels
+    pub painted-bytes : {from : ℕ} (end : ℕ) (old : List ℕ) → end ≡ wordBytes p → end ≤ length old → from ≡ bodyStart scn → r .status ≡ 0
+        → over (wordsToBytes (bodyPixels t (take (r .used .0 - from) (drop from rest)) p)) (zeros end) ++ drop end old
         ≡ over (wordsToBytes (readingOf scn t p number rest .row)) old
-    painted-bytes old start none = ap (λ (l : List ℕ). over (wordsToBytes l) old) (sym (good-line start none .row-is))
+    painted-bytes end old e fits start none =
+        let row = readingOf scn t p number rest .row in
+        let l : length (wordsToBytes row) ≡ end = length-bytes row ∙ ap wordBytes (length-row scn t p rest number) ∙ sym e in
+        let z : length (zeros end) ≡ end = length-replicate end 0 in
+        ap (λ (x : List ℕ). over (wordsToBytes x) (zeros end) ++ drop end old) (sym (good-line start none .row-is))
+        ∙ ap (λ (x : List ℕ). x ++ drop end old)
+        (over-full (wordsToBytes row) (zeros end) (omega arith) ∙ take-all (length (zeros end)) (wordsToBytes row) (omega arith))
+        ∙ ap (λ (n : ℕ). wordsToBytes row ++ drop n old) (sym l)
+        ∙ sym (over-fits (wordsToBytes row) old (omega arith))
 
 -- a row of bytes is cleared as far as it has pixels
 pub cleared-bytes : (n end : ℕ) (old row : List ℕ) → end ≡ wordBytes n → end ≤ length old → row ≡ zeros n

@@ -125,14 +125,3 @@ take-same-bytes (suc m) (suc a) zero w h g = absurd (omega arith)
 take-same-bytes (suc zero) (suc a) (suc b) w h g = refl
 take-same-bytes (suc (suc m)) (suc a) (suc b) w h g =
     ap (λ (l : List ℕ). w % 256 ∷ (w / 256 ∷ l)) (take-same-bytes m a b w (omega arith) (omega arith))
-
--- eight words and more give the same bytes, as far as a short buffer goes
-pub short-bytes : (out : List ℕ) (w : ℕ) → length out ≤ 16
-    → over (wordsToBytes (replicate 8 w)) out ≡ over (wordsToBytes (replicate (length out) w)) out
-short-bytes out w h =
-    let eight : length (wordsToBytes (replicate 8 w)) ≡ 16 = length-bytes (replicate 8 w) in
-    let all : length (wordsToBytes (replicate (length out) w)) ≡ 2 * length out =
-    length-bytes (replicate (length out) w) ∙ ap (λ (n : ℕ). 2 * n) (length-replicate (length out) w) in
-    over-full (wordsToBytes (replicate 8 w)) out (omega arith)
-    ∙ take-same-bytes (length out) 8 (length out) w (omega arith) (omega arith)
-    ∙ sym (over-full (wordsToBytes (replicate (length out) w)) out (omega arith))

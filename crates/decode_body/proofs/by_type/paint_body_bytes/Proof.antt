@@ -1,4 +1,6 @@
-use mathlib.Core.Path.{sym}
+use mathlib.Core.Path.{sym, _∙_}
+use lib.ListN.{length}
+use Rattle.units.specs.Over.{zeros}
 use Rattle.units.specs.Words.{wordsToBytes}
 use Rattle.units.specs.laws.Over.{over-nil}
 use Rattle.codec.specs.Table.{codecOf}
@@ -26,13 +28,14 @@ returns-4 c = rw (c .before .before .before .before .match .keys4) (c .before .b
 returns-5 : tie.Need-returns-5
 unfolding wordsToBytes
 returns-5 c =
-    let a = c .before .before .before .args in
-    rw (no-pixels (a .dtc) _ _ (c .match .rest)) (sym (over-nil (a .row .now)))
+    let a = c .before .before .before .before .before .before .before .args in
+    rw (no-pixels (a .dtc) _ _ (c .before .before .before .before .match .rest)) (c .before .before .clear .ensures ∙ sym (over-nil (zeros (length (a .row .now)))))
 
 pub paint-body-bytes-spec : {M : Type 1} → statement M
 paint-body-bytes-spec =
     tie.close
     (tie.spec
+    (λ c κs. search needs)
     (λ c κs. search needs)
     (λ c κs. search needs)
     (λ c κs. search needs)
@@ -45,4 +48,5 @@ paint-body-bytes-spec =
     returns-3
     (λ c. search needs)
     returns-4
+    (λ c. search needs)
     returns-5)

@@ -28,13 +28,13 @@ slice-write-out-2 c = simp length-set (omega arith)
 loop-again : tie.Need-loop-again Inv-loop μ-loop
 loop-again c =
     let l = c .before .loop in
-    let a = c .before .before .before .before .args in
+    let a = c .before .before .before .args in
     (omega arith, simp length-set (l .inv .1), sym (sets-same (l .out) (length (a .out .now)) (a .w) (l .i) (omega arith)) ∙ l .inv .2)
 
-returns-2 : tie.Need-returns-2 Inv-loop μ-loop
-returns-2 c =
+returns : tie.Need-returns Inv-loop μ-loop
+returns c =
     let l = c .before .before .before .before .before .loop in
-    let a = c .before .before .before .before .before .before .before .before .args in
+    let a = c .before .before .before .before .before .before .before .args in
     let e : l .i ≡ length (a .out .now) / 2 = omega arith in
     let last = same-last (l .out) (length (a .out .now)) (a .w) (l .i) (omega arith) (omega arith) in
     c .before .before .put-word .ensures ∙ (rw e at (sym last ∙ l .inv .2))
@@ -45,9 +45,6 @@ fill-words-spec =
     (tie.spec
     Inv-loop
     μ-loop
-    (λ c κs. c .before .if1 .taken)
-    (λ c. search needs)
-    (λ c. c .before .before .fill-short .ensures)
     (λ c. search needs)
     (λ c. search needs)
     loop-holds
@@ -62,4 +59,4 @@ fill-words-spec =
     (λ c. search needs)
     (λ c κs. search needs)
     (λ c. search needs)
-    returns-2)
+    returns)
