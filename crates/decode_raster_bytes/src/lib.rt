@@ -11,11 +11,14 @@ ghost use Rattle.layout.specs.Chain.{rasterOf};
 ghost use Rattle.layout.specs.PixelBytes.{bytesReading, pixelBytesAfter, byteMarksAfter};
 ghost use Rattle.decode_raster.specs.Answer.{rasterNumbers};
 ghost use Rattle.decode_raster.specs.laws.Answer.{asBytes, Fits, ChainAt, Stepped};
-ghost use Rattle.decode_raster.specs.laws.Lines.{Done};
+ghost use Rattle.decode_raster.specs.laws.Lines.{LinesAt, Done};
 use decode_raster::Chain;
 use decode_raster::RasterAnswer;
 use decode_raster::raster_rejection;
+use decode_scanline::body_start;
+use decode_scanline::is_regular;
 use decode_scanline::read_scanline_bytes;
+use decode_scanline::regular_size;
 use layout::RasterLayout;
 use layout::answer_of;
 use layout::one_if_good;
@@ -25,6 +28,7 @@ use slices::fill_bytes;
 use units::Bytes;
 use units::Words;
 use units::bytes_to_words;
+use units::widen_words;
 use units::words_to_bytes;
 
 // Reads the raster of a file: pixels as two bytes each, row after row, and a status for each scanline.
@@ -51,8 +55,8 @@ pub fn read_raster_bytes(file: &[u8], pixels: &mut [u8], marks: &mut [u8]) -> Ra
     }
 }
 
-// Reads the scanlines one after the other, each into its own part of the bytes. After a lost one the rest is blank, at once: of many
-// rows that takes less time than row after row.
+// Reads the scanlines one after the other, each into its own part of the bytes, the first regular ones in a loop of their own. After a
+// lost one the rest is blank, at once: of many rows that takes less time than row after row.
 fn read_lines(bytes: &[u8], l: RasterLayout, pixels: &mut [u8], marks: &mut [u8]) -> Chain
     requires { ⌜ Fits (rasterOf l (now bytes)) (wordBytes (l .ppl)) (length (now pixels)) (length (now marks)) ⌝ }
     ensures { λ r. ⌜ Done (rasterOf l (now (bytes .entry))) (asBytes (l .ppl)) (now (pixels .entry)) (now (marks .entry)) (now (pixels .exit)) (now (marks .exit)) r ⌝ }
@@ -60,13 +64,8 @@ fn read_lines(bytes: &[u8], l: RasterLayout, pixels: &mut [u8], marks: &mut [u8]
     let width = words_to_bytes(Words(l.ppl as usize)).0;
     let n = l.nol as usize;
     let end = n * width;
-    let mut chain = Chain {
-        at: l.start,
-        lost: false,
-        good: 0,
-        status: 0,
-    };
-    let mut k = 0;
+    let mut chain = read_regular(bytes, l, pixels, marks);
+    let mut k = chain.good as usize;
     while k < n {
         let from = k * width;
         if chain.lost {
@@ -80,6 +79,40 @@ fn read_lines(bytes: &[u8], l: RasterLayout, pixels: &mut [u8], marks: &mut [u8]
         k += 1;
     }
     chain
+}
+
+// Reads the first scanlines of a raster of bytes as long as they are regular, in a loop of its own: few pixels a line then cost little
+// beside storing them. Of another data type it reads none.
+fn read_regular(bytes: &[u8], l: RasterLayout, pixels: &mut [u8], marks: &mut [u8]) -> Chain
+    requires { ⌜ Fits (rasterOf l (now bytes)) (wordBytes (l .ppl)) (length (now pixels)) (length (now marks)) ⌝ }
+    ensures { λ r. ⌜ LinesAt (rasterOf l (now (bytes .entry))) (asBytes (l .ppl)) (now (pixels .entry)) (now (marks .entry)) (now (pixels .exit)) (now (marks .exit)) r (r .good) ⌝ }
+{
+    let p = l.ppl as usize;
+    let width = words_to_bytes(Words(p)).0;
+    let size = regular_size(l.scn, l.ppl);
+    let start = body_start(l.scn);
+    let n = if l.dtc == 2 { l.nol as usize } else { 0 };
+    let mut at = l.start;
+    let mut k = 0;
+    while k < n {
+        if !is_regular(l.scn, (k + 1) as u16, size, &bytes[at..]) {
+            break;
+        }
+        let from = k * width;
+        let to = from + width;
+        let a = at + start;
+        let b = a + p;
+        widen_words(&bytes[a..b], &mut pixels[from..to]);
+        marks[k] = 0;
+        at += size.0;
+        k += 1;
+    }
+    Chain {
+        at,
+        lost: false,
+        good: k as u32,
+        status: 0,
+    }
 }
 
 // Reads scanline k, counted from 0, which the chain has come to.

@@ -1,7 +1,9 @@
--- What scanning a scanline answers, and what reading it into a row of pixels leaves there.
+-- What scanning a scanline answers, what reading it into a row of pixels leaves there, and where its body starts.
 use Prim.Native.Nat.{ℕ}
 use mathlib.Core.Path.{_≡_}
+use mathlib.Core.Bool.{cond}
 use mathlib.Core.List.{List}
+use lib.Dec.{eqb}
 use Rattle.layout.specs.Scanline.{Reading, Step}
 use Rattle.decode_scanline.specs.declared.Scanline.{Scanline}
 
@@ -15,3 +17,7 @@ pub record IsLine (s : Step) (x : Reading) (r : Scanline) (row : List ℕ) : Typ
   pub lost : r .lost ≡ s .lost
   pub used : r .used .0 ≡ s .used .0
   pub row-is : row ≡ x .row
+
+-- after the header, where there is one
+abbrev pub bodyStart : ℕ → ℕ
+bodyStart scn = cond (eqb scn 1) 8 0

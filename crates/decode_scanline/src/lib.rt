@@ -4,16 +4,18 @@
 // scanline's pixels where its status is 0, else with zeros. A row has 16 bits for each pixel, or two bytes, low byte first.
 mod headed;
 mod open;
+mod regular;
 
 ghost use mathlib.Core.Path.{_≡_};
 ghost use lib.ListN.{length};
 ghost use Rattle.units.specs.Over.{over};
 ghost use Rattle.units.specs.Words.{wordCount, wordsToBytes};
 ghost use Rattle.layout.specs.Scanline.{stepOf, readingOf};
-ghost use Rattle.decode_scanline.specs.Answer.{IsScan, IsLine};
-ghost use Rattle.decode_scanline.specs.laws.Body.{bodyStart};
+ghost use Rattle.decode_scanline.specs.Answer.{IsScan, IsLine, bodyStart};
 use decode_body::paint_body;
 use decode_body::paint_body_bytes;
+pub use regular::is_regular;
+pub use regular::regular_size;
 use slices::clear;
 use slices::fill;
 use units::Bytes;
@@ -73,7 +75,7 @@ pub fn read_scanline_bytes(scn: u8, dtc: u16, number: u16, rest: &[u8], row: &mu
 }
 
 // Where the body of a scanline starts: after the header, where there is one.
-fn body_start(scn: u8) -> usize
+pub fn body_start(scn: u8) -> usize
     ensures { λ r. ⌜ r ≡ bodyStart scn ⌝ }
 {
     if scn == 1 { 8 } else { 0 }

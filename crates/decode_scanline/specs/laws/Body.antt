@@ -19,11 +19,7 @@ use Rattle.units.specs.laws.Stores.{length-bytes, zero-bytes}
 use Rattle.layout.specs.Scanline.{Reading, Step, headOf, bodyOf, following, reading, headedReading, openReading, headedStep, openStep, stepOf, readingOf}
 use Rattle.layout.specs.laws.Line.{NotLost, not-lost, is-not-lost, no-fault, row-by-status, length-row}
 use Rattle.decode_scanline.specs.declared.Scanline.{Scanline}
-use Rattle.decode_scanline.specs.Answer.{IsScan, IsLine}
-
--- after the header, where there is one
-abbrev pub bodyStart : ℕ → ℕ
-bodyStart scn = cond (eqb scn 1) 8 0
+use Rattle.decode_scanline.specs.Answer.{IsScan, IsLine, bodyStart}
 
 -- the scanline takes `used` bytes, and its body starts at `from`
 pub record GoodBody (t p : ℕ) (rest : List ℕ) (from used : ℕ) (row : List ℕ) : Type 0 where

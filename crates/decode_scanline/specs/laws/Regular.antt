@@ -1,0 +1,102 @@
+-- A regular scanline is good: its status is 0, and its row has the bytes of its body.
+use Prim.Native.Nat.{ℕ, _+_, _-_, _%_, _≤_}
+use mathlib.Core.Path.{_≡_, refl, sym, _∙_}
+use mathlib.Core.Bool.{Bool, true, false, cond, _&&_, false≢true}
+use mathlib.Core.List.{List}
+use native.Mathlib.Omega.{arith}
+use lib.ListN.{length, take, drop}
+use lib.Seq.{take-take}
+use lib.Dec.{eqb, leb}
+use borrow.Author.Tests.{eq-eqb, le-ltb, eqb-true, leb-true}
+use Rattle.units.specs.Counts.{nBytes, wordBytes}
+use Rattle.units.specs.LittleEndian.{byteAt, u16At}
+use Rattle.units.specs.Rules.{first}
+use Rattle.codec.specs.Table.{codecOf, bodyRules}
+use Rattle.layout.specs.Scanline.{headOf, bodyOf, placementRules, headedStep, openStep, stepOf, headedReading, openReading, readingOf}
+use Rattle.layout.specs.laws.Line.{lostBy, lost-not, not-lost, is-not-lost, head-word, status-body}
+use Rattle.decode_scanline.specs.declared.Scanline.{Scanline}
+use Rattle.decode_scanline.specs.Answer.{IsScan, bodyStart}
+use Rattle.decode_scanline.specs.Regular.{regularSize, isRegularHead, isRegular}
+use Rattle.decode_scanline.specs.laws.Body.{good-line}
+
+-- what the tests say
+both : (a b : Bool) → (a && b) ≡ true → (a ≡ true) × (b ≡ true)
+both true b e = (refl, e)
+both false b e = absurd (false≢true e)
+
+all : (a b c d : Bool) → (a && (b && (c && d))) ≡ true → (a ≡ true) × (b ≡ true) × (c ≡ true) × (d ≡ true)
+all true true true d e = (refl, refl, refl, e)
+all true true false d e = absurd (false≢true e)
+all true false c d e = absurd (false≢true e)
+all false b c d e = absurd (false≢true e)
+
+-- a good scanline of n bytes
+abbrev pub goodScan : ℕ → Scanline
+goodScan n = record { status = 0; lost = false; used = nBytes n }
+
+-- with a header
+module _ (p number : ℕ) (rest : List ℕ) (fits : 8 + p + p % 2 ≤ length rest) (head : isRegularHead number (8 + p + p % 2) rest ≡ true) where
+  headed-good : IsScan (headedStep rest) (headedReading 2 p number rest) (goodScan (8 + p + p % 2))
+  unfolding codecOf
+  headed-good =
+      let t =
+      all (eqb (byteAt rest 1) 0x59) (eqb (4 + wordBytes (u16At rest 2)) (8 + p + p % 2)) (eqb (u16At rest 4) number) (eqb (u16At rest 6) 0) head in
+      let w : 4 + wordBytes (u16At rest 2) ≡ 8 + p + p % 2 = eqb-true _ _ (t .1) in
+      let none : lostBy rest ≡ 0 = lost-not rest (omega arith) (eqb-true _ _ (t .0)) (omega arith) (omega arith) in
+      let placed : first (placementRules number (headOf rest)) ≡ 0 =
+      simp (head-word rest 4 (omega arith), t .2, head-word rest 6 (omega arith), t .3) in
+      let size : length (bodyOf rest) ≡ p + p % 2 = omega (arith, not-lost rest none .size, head-word rest 2 (omega arith)) in
+      let body : first (bodyRules 2 (bodyOf rest) p) ≡ 0 = simp (eq-eqb _ _ size) in
+      record {
+        status = sym (status-body 2 p number (headOf rest) (bodyOf rest) none placed ∙ body);
+        lost = sym (is-not-lost rest none);
+        used = rw (is-not-lost rest none) (omega (arith, head-word rest 2 (omega arith)));
+      }
+
+-- without
+open-good : (p : ℕ) (rest : List ℕ) → p ≤ length rest → IsScan (openStep 2 p rest) (openReading 2 p rest) (goodScan p)
+unfolding codecOf
+open-good p rest fits = let t = le-ltb (length rest) p fits in record { status = rw t; lost = rw t; used = rw t }
+
+-- what holds of a regular scanline
+pub record Regular (scn p number : ℕ) (rest : List ℕ) : Type 0 where
+  pub within : regularSize scn p ≤ length rest
+  pub body : bodyStart scn + p ≤ regularSize scn p
+  pub scan : IsScan (stepOf scn 2 p rest) (readingOf scn 2 p number rest) (goodScan (regularSize scn p))
+  pub row-is : readingOf scn 2 p number rest .row ≡ take p (drop (bodyStart scn) rest)
+
+module _ (scn p number : ℕ) (rest : List ℕ) (tests : isRegular scn number (regularSize scn p) rest ≡ true) where
+  scanned : (regularSize scn p ≤ length rest) × IsScan (stepOf scn 2 p rest) (readingOf scn 2 p number rest) (goodScan (regularSize scn p))
+  unfolding isRegular
+  scanned = go (eqb scn 1) tests
+    where
+      go : (s : Bool)
+          → let size = cond s (8 + p + p % 2) p in (leb size (length rest) && cond s (isRegularHead number size rest) true) ≡ true
+          → (size ≤ length rest) × IsScan (cond s (headedStep rest) (openStep 2 p rest)) (cond s (headedReading 2 p number rest) (openReading 2 p rest)) (goodScan size)
+      go true e =
+          let t = both (leb (8 + p + p % 2) (length rest)) (isRegularHead number (8 + p + p % 2) rest) e in
+          let fits = leb-true (8 + p + p % 2) (length rest) (t .0) in
+          (fits, headed-good p number rest fits (t .1))
+      go false e =
+          let fits = leb-true p (length rest) (both (leb p (length rest)) true e .0) in
+          (fits, open-good p rest fits)
+
+  -- the body has p bytes or more
+  body-holds : bodyStart scn + p ≤ regularSize scn p
+  body-holds = go (eqb scn 1)
+    where
+      go : (s : Bool) → cond s 8 0 + p ≤ cond s (8 + p + p % 2) p
+      go true = omega arith
+      go false = omega arith
+
+  pub regular : Regular scn p number rest
+  unfolding codecOf
+  regular =
+      record {
+        within = scanned .0;
+        body = body-holds;
+        scan = scanned .1;
+        row-is =
+            good-line scn 2 p number rest (scanned .1) refl refl .row-is
+            ∙ take-take p (regularSize scn p - bodyStart scn) (drop (bodyStart scn) rest) (omega (arith, body-holds));
+      }
