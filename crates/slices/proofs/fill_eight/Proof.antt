@@ -43,30 +43,29 @@ eight-fill out v l =
     ∙ over-full (wordsToBytes (replicate 8 v)) out (omega arith)
     ∙ take-all (length out) (wordsToBytes (replicate 8 v)) (omega arith)
 
-stored : (out : List ℕ) (v low high : ℕ) → length out ≡ 16 → v < 65536 → low ≡ 65537 * v → high ≡ 65537 * v
-    → sets (sets (sets (sets out 0 (u32Bytes low)) 4 (u32Bytes high)) 8 (u32Bytes low)) 12 (u32Bytes high) ≡ wordsToBytes (replicate 8 v)
-unfolding wordsToBytes
-stored out v low high l h e f =
-    (λ i. sets (sets (sets (sets out 0 (two v low h e i)) 4 (two v high h f i)) 8 (two v low h e i)) 12 (two v high h f i))
-    ∙ four-parts out (wordsToBytes (v ∷ (v ∷ []))) refl
-    ∙ eight-fill out v l
+-- eight pixels, stored two at a time
+module _ (out once twice thrice all : List ℕ) (v a b c d : ℕ) where
+  stored : once ≡ sets out 0 (u32Bytes a) → twice ≡ sets once 4 (u32Bytes b) → thrice ≡ sets twice 8 (u32Bytes c) → all ≡ sets thrice 12 (u32Bytes d)
+      → length out ≡ 16 → v < 65536 → a ≡ 65537 * v → b ≡ 65537 * v → c ≡ 65537 * v → d ≡ 65537 * v
+      → all ≡ wordsToBytes (replicate 8 v)
+  unfolding wordsToBytes
+  stored e f g h l small x y z w =
+      h
+      ∙ ap (λ (o : List ℕ). sets o 12 (u32Bytes d)) (g ∙ ap (λ (o : List ℕ). sets o 8 (u32Bytes c)) (f ∙ ap (λ (o : List ℕ). sets o 4 (u32Bytes b)) e))
+      ∙ (λ i. sets (sets (sets (sets out 0 (two v a small x i)) 4 (two v b small y i)) 8 (two v c small z i)) 12 (two v d small w i))
+      ∙ four-parts out (wordsToBytes (v ∷ (v ∷ []))) refl
+      ∙ eight-fill out v l
 
 returns : tie.Need-returns
 returns c =
-    let s = c .before .before .before .before .before .before .before .before .before .before .before .before .before .before .before .before .before in
-    let v = s .args .v in
-    let low : v * 281479271743489 % 4294967296 ≡ 65537 * v = omega arith in
-    let high : v * 281479271743489 / 4294967296 ≡ 65537 * v = omega arith in
-    let p4 = c .before .before .put-long4 in
-    let p3 = c .before .before .before .before .before .before .put-long3 in
-    let p2 = c .before .before .before .before .before .before .before .before .before .before .put-long2 in
-    let p1 = c .before .before .before .before .before .before .before .before .before .before .before .before .before .before .put-long in
-    p4 .ensures
-    ∙ ap (λ (x : List ℕ). sets x 12 (u32Bytes (v * 281479271743489 / 4294967296)))
-    (p3 .ensures
-    ∙ ap (λ (x : List ℕ). sets x 8 (u32Bytes (v * 281479271743489 % 4294967296)))
-    (p2 .ensures ∙ ap (λ (x : List ℕ). sets x 4 (u32Bytes (v * 281479271743489 / 4294967296))) (p1 .ensures)))
-    ∙ stored (s .args .out .now) v (v * 281479271743489 % 4294967296) (v * 281479271743489 / 4294967296) (s .pre) (omega arith) low high
+    let p4 = c .before .before in
+    let p3 = p4 .before .before .before .before in
+    let p2 = p3 .before .before .before .before in
+    let p1 = p2 .before .before .before .before in
+    let s = p1 .before .before .before in
+    stored (s .args .out .now) (p1 .put-long .last .0) (p2 .put-long2 .last .0) (p3 .put-long3 .last .0) (p4 .put-long4 .last .0) (s .args .v) _ _ _ _
+    (p1 .put-long .ensures) (p2 .put-long2 .ensures) (p3 .put-long3 .ensures) (p4 .put-long4 .ensures) (s .pre)
+    (omega arith) (omega arith) (omega arith) (omega arith) (omega arith)
 
 pub fill-eight-spec : {M : Type 1} → statement M
 fill-eight-spec =
