@@ -89,5 +89,6 @@ pub fn paint_pair_bytes(body: &[u8], row: &mut [u8])
         at = put_run_bytes(row, at, u16_at(body, i + 2) as usize, value);
         i += 4;
     }
-    clear(&mut row[at..]);
+    let end = row.len();
+    clear(&mut row[at..end]);
 }

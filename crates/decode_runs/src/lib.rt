@@ -93,5 +93,6 @@ pub fn paint_run_bytes(body: &[u8], row: &mut [u8])
         level = 1 - level;
         i += 2;
     }
-    clear(&mut row[at..]);
+    let end = row.len();
+    clear(&mut row[at..end]);
 }
