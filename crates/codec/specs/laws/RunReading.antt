@@ -10,7 +10,7 @@ use lib.ListN.{length, take, drop, replicate, length-append, length-replicate}
 use lib.Dec.{ltb, eqb}
 use Rattle.units.specs.LittleEndian.{u16At}
 use Rattle.units.specs.Rules.{first}
-use Rattle.units.specs.laws.Rules.{none-holds}
+use Rattle.units.specs.laws.Rules.{none-holds, both-true}
 use Rattle.units.specs.Words.{words, wordCount}
 use Rattle.units.specs.laws.Words.{words-step, words-none}
 use Rattle.codec.specs.RunPixels.{runPixels, runTotal, runRules, runsFrom, runExtent}
@@ -109,10 +109,6 @@ record Takes (r : List ℕ) (left before : ℕ) (e : Extent) : Type 0 where
   adds : e .used .0 ≡ before + size
   total : runTotal (words (take size r)) ≡ left
 
-and-right : (s t : Bool) → (s && t) ≡ true → t ≡ true
-and-right true t e = e
-and-right false t e = let z : _≡_ {A = ℕ} 0 1 = ap level e in absurd (omega arith)
-
 takes-run : (above last : Bool) (a b left before : ℕ) (r : List ℕ) (rest : Extent)
     → ltb left (a + 256 * b) ≡ above
     → (last ≡ true → left ≡ a + 256 * b)
@@ -140,7 +136,7 @@ takes v left before (a ∷ []) z = absurd (omega arith)
 takes v left before (a ∷ (b ∷ r)) z =
     takes-run (ltb left (a + 256 * b)) (eqb v 0 && eqb left (a + 256 * b)) a b left before r
     (runsFrom (1 - v) (left - (a + 256 * b)) (words r) (before + 2)) refl
-    (λ q. eqb-true left (a + 256 * b) (and-right (eqb v 0) (eqb left (a + 256 * b)) q))
+    (λ q. eqb-true left (a + 256 * b) (both-true (eqb v 0) (eqb left (a + 256 * b)) q .1))
     (takes (1 - v) (left - (a + 256 * b)) (before + 2) r) z
 
 module _ (r : List ℕ) (p : ℕ) (e : Extent) (h : e ≡ runExtent r p) (z : e .status ≡ 0) where

@@ -1,7 +1,7 @@
 -- A regular scanline is good: its status is 0, and its row has the bytes of its body.
 use Prim.Native.Nat.{ℕ, _+_, _-_, _%_, _≤_}
 use mathlib.Core.Path.{_≡_, refl, sym, _∙_}
-use mathlib.Core.Bool.{Bool, true, false, cond, _&&_, false≢true}
+use mathlib.Core.Bool.{Bool, true, false, cond, _&&_}
 use mathlib.Core.List.{List}
 use native.Mathlib.Omega.{arith}
 use lib.ListN.{length, take, drop}
@@ -11,6 +11,7 @@ use borrow.Author.Tests.{eq-eqb, le-ltb, eqb-true, leb-true}
 use Rattle.units.specs.Counts.{nBytes, wordBytes}
 use Rattle.units.specs.LittleEndian.{byteAt, u16At}
 use Rattle.units.specs.Rules.{first}
+use Rattle.units.specs.laws.Rules.{both-true}
 use Rattle.codec.specs.Table.{codecOf, bodyRules}
 use Rattle.layout.specs.Scanline.{headOf, bodyOf, placementRules, headedStep, openStep, stepOf, headedReading, openReading, readingOf}
 use Rattle.layout.specs.laws.Line.{lostBy, lost-not, not-lost, is-not-lost, head-word, status-body}
@@ -18,17 +19,6 @@ use Rattle.decode_scanline.specs.declared.Scanline.{Scanline}
 use Rattle.decode_scanline.specs.Answer.{IsScan, bodyStart}
 use Rattle.decode_scanline.specs.Regular.{regularSize, isRegularHead, isRegular}
 use Rattle.decode_scanline.specs.laws.Body.{good-line}
-
--- what the tests say
-both : (a b : Bool) → (a && b) ≡ true → (a ≡ true) × (b ≡ true)
-both true b e = (refl, e)
-both false b e = absurd (false≢true e)
-
-all : (a b c d : Bool) → (a && (b && (c && d))) ≡ true → (a ≡ true) × (b ≡ true) × (c ≡ true) × (d ≡ true)
-all true true true d e = (refl, refl, refl, e)
-all true true false d e = absurd (false≢true e)
-all true false c d e = absurd (false≢true e)
-all false b c d e = absurd (false≢true e)
 
 -- a good scanline of n bytes
 abbrev pub goodScan : ℕ → Scanline
@@ -39,12 +29,13 @@ module _ (p number : ℕ) (rest : List ℕ) (fits : 8 + p + p % 2 ≤ length res
   headed-good : IsScan (headedStep rest) (headedReading 2 p number rest) (goodScan (8 + p + p % 2))
   unfolding codecOf
   headed-good =
-      let t =
-      all (eqb (byteAt rest 1) 0x59) (eqb (4 + wordBytes (u16At rest 2)) (8 + p + p % 2)) (eqb (u16At rest 4) number) (eqb (u16At rest 6) 0) head in
-      let w : 4 + wordBytes (u16At rest 2) ≡ 8 + p + p % 2 = eqb-true _ _ (t .1) in
+      let t = both-true (eqb (byteAt rest 1) 0x59) _ head in
+      let s = both-true (eqb (4 + wordBytes (u16At rest 2)) (8 + p + p % 2)) _ (t .1) in
+      let o = both-true (eqb (u16At rest 4) number) (eqb (u16At rest 6) 0) (s .1) in
+      let w : 4 + wordBytes (u16At rest 2) ≡ 8 + p + p % 2 = eqb-true _ _ (s .0) in
       let none : lostBy rest ≡ 0 = lost-not rest (omega arith) (eqb-true _ _ (t .0)) (omega arith) (omega arith) in
       let placed : first (placementRules number (headOf rest)) ≡ 0 =
-      simp (head-word rest 4 (omega arith), t .2, head-word rest 6 (omega arith), t .3) in
+      simp (head-word rest 4 (omega arith), o .0, head-word rest 6 (omega arith), o .1) in
       let size : length (bodyOf rest) ≡ p + p % 2 = omega (arith, not-lost rest none .size, head-word rest 2 (omega arith)) in
       let body : first (bodyRules 2 (bodyOf rest) p) ≡ 0 = simp (eq-eqb _ _ size) in
       record {
@@ -74,11 +65,11 @@ module _ (scn p number : ℕ) (rest : List ℕ) (tests : isRegular scn number (r
           → let size = cond s (8 + p + p % 2) p in (leb size (length rest) && cond s (isRegularHead number size rest) true) ≡ true
           → (size ≤ length rest) × IsScan (cond s (headedStep rest) (openStep 2 p rest)) (cond s (headedReading 2 p number rest) (openReading 2 p rest)) (goodScan size)
       go true e =
-          let t = both (leb (8 + p + p % 2) (length rest)) (isRegularHead number (8 + p + p % 2) rest) e in
+          let t = both-true (leb (8 + p + p % 2) (length rest)) (isRegularHead number (8 + p + p % 2) rest) e in
           let fits = leb-true (8 + p + p % 2) (length rest) (t .0) in
           (fits, headed-good p number rest fits (t .1))
       go false e =
-          let fits = leb-true p (length rest) (both (leb p (length rest)) true e .0) in
+          let fits = leb-true p (length rest) (both-true (leb p (length rest)) true e .0) in
           (fits, open-good p rest fits)
 
   -- the body has p bytes or more

@@ -10,6 +10,7 @@ use native.Mathlib.Omega.{arith}
 use borrow.Author.Tests.{eqb-true, eq-eqb}
 use Rattle.units.specs.LittleEndian.{u16At, u32At}
 use Rattle.units.specs.Scan.{scan}
+use Rattle.units.specs.laws.Rules.{both-true}
 use Rattle.units.specs.Words.{words, wordsToBytes}
 use Rattle.codec.specs.RunPixels.{runPixels, runTotal, runsFrom}
 use Rattle.codec.specs.Table.{codecOf, isDataType}
@@ -23,18 +24,13 @@ use Rattle.isolation.specs.laws.Covered.{covered}
 use Rattle.edges.specs.Cases.{blank}
 use Rattle.edges.specs.Pairs.{sameBytes, isCovered, computedPair, held, three, ofThree, alike, pairs, AllPairs}
 
-and-both : (a b : Bool) → (a && b) ≡ true → (a ≡ true) × (b ≡ true)
-and-both true b h = (refl, h)
-and-both false true h = (h, refl)
-and-both false false h = (h, h)
-
 same-bytes : (a b : List ℕ) → sameBytes a b ≡ true → a ≡ b
 unfolding sameBytes
 same-bytes [] [] h = refl
 same-bytes [] (y ∷ b) h = absurd (let z : _≡_ {A = ℕ} 0 1 = cc in omega arith)
 same-bytes (x ∷ a) [] h = absurd (let z : _≡_ {A = ℕ} 0 1 = cc in omega arith)
 same-bytes (x ∷ a) (y ∷ b) h =
-    let t = and-both (eqb x y) (sameBytes a b) h in
+    let t = both-true (eqb x y) (sameBytes a b) h in
     let e : x ≡ y = eqb-true x y (t .0) in
     let r : a ≡ b = same-bytes a b (t .1) in
     cc
@@ -49,7 +45,7 @@ unfolding isCovered
 covered-is f g =
     let n = sheetOf f .nol in (
       (λ h.
-          let t = and-both (eqb (length g) (length f)) (sameBytes (blanked (sheetOf f) n g) (blanked (sheetOf f) n f)) h in
+          let t = both-true (eqb (length g) (length f)) (sameBytes (blanked (sheetOf f) n g) (blanked (sheetOf f) n f)) h in
           covered f .exactly g .1 (eqb-true (length g) (length f) (t .0), same-bytes (blanked (sheetOf f) n g) (blanked (sheetOf f) n f) (t .1))),
       (λ c.
           let t = covered f .exactly g .0 c in

@@ -1,15 +1,15 @@
 use Prim.Native.Nat.{ℕ, _+_, _-_, _*_, _≤_, _<_, min, max}
-use mathlib.Core.Path.{_≡_, refl, sym, _∙_, ap, subst}
-use mathlib.Core.Bool.{Bool, true, false, _&&_}
+use mathlib.Core.Path.{_≡_, sym, _∙_, ap}
 use native.Mathlib.Omega.{arith}
 use lib.ListN.{length, take, replicate, length-replicate}
-use lib.Dec.{T, leb}
+use lib.Dec.{leb}
 use lib.Seq.{sets, take-all}
 use borrow.Author.Tests.{leb-true}
 use borrow.Rule.Slice.PartMut.{midOf, mid-len}
 use Rattle.units.specs.Counts.{wordBytes}
 use Rattle.units.specs.Words.{wordsToBytes}
 use Rattle.units.specs.laws.Over.{sets-past, over-full}
+use Rattle.units.specs.laws.Rules.{both-true}
 use Rattle.units.specs.laws.Stores.{length-bytes, take-same-bytes}
 use Rattle.slices.specs.laws.Painting.{part-stored}
 use borrow.Author.Needs.{needs}
@@ -33,17 +33,13 @@ returns c =
     let a = c .before .before .args in
     (omega arith, sym (sets-past (a .row .now) (a .at) (wordsToBytes (replicate (max (a .n) 8) (a .v))) (c .if1 .taken)))
 
-both : (a b : Bool) → (a && b) ≡ true → (a ≡ true) × (b ≡ true)
-both true b e = (refl, e)
-both false b e = absurd (subst T (sym e) tt)
-
 -- a short run is one of eight pixels at most, and eight have room
 short : (c : tie.Then2)
     → let a = c .before .before .before .before .args in
     (a .n ≤ 8) × (16 ≤ length (a .row .now) - a .at)
 short c =
     let a = c .before .before .before .before .args in
-    let b = both (leb (a .n) 8) (leb 16 (length (a .row .now) - a .at)) (sym (c .before .is-short .ensures) ∙ c .if2 .taken) in
+    let b = both-true (leb (a .n) 8) (leb 16 (length (a .row .now) - a .at)) (sym (c .before .is-short .ensures) ∙ c .if2 .taken) in
     (leb-true (a .n) 8 (b .0), leb-true 16 (length (a .row .now) - a .at) (b .1))
 
 part-fill-eight-end : tie.Need-part-fill-eight-end

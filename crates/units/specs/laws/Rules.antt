@@ -1,7 +1,7 @@
--- Tables of rules: none holds, and two tables one after the other.
+-- Tables of rules: none holds, and two tables one after the other. And two tests that both hold.
 use Prim.Native.Nat.{ℕ, _≤_, _<_}
 use mathlib.Core.Path.{_≡_, refl, sym, _∙_}
-use mathlib.Core.Bool.{Bool, true, false, cond, _&&_}
+use mathlib.Core.Bool.{Bool, true, false, cond, _&&_, false≢true}
 use mathlib.Core.List.{List, [], _∷_, _++_}
 use native.Mathlib.Omega.{arith}
 use lib.Dec.{T, ltb, leb, eqb, ltb→lt, leb→le}
@@ -88,3 +88,7 @@ module _ (a b : List Rule) {n : ℕ} (number : n ≡ first a) where
       go : (s : Bool) → eqb n 0 ≡ s → cond s m n ≡ first (a ++ b)
       go true z = by-second t (eqb-true n 0 z) rest
       go false z = by-first (eqb-false n 0 z)
+
+pub both-true : (a b : Bool) → (a && b) ≡ true → (a ≡ true) × (b ≡ true)
+both-true true b e = (refl, e)
+both-true false b e = absurd (false≢true e)
