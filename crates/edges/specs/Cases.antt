@@ -1,12 +1,12 @@
--- "Sheets at the edges", cases 1 to 10, 12 and 13: one table under one statement. Each case is a whole file, read through the
--- definitions that the promises of `read_header` and `read_raster` cite.
+-- "Sheets at the edges", cases 1 to 10, 12 and 13, and lines that start partway: one table under one statement. Each case is a whole
+-- file, read through the definitions that the promises of `read_header` and `read_raster` cite.
 use Prim.Native.Nat.{ℕ, _-_}
 use mathlib.Core.Path.{_≡_}
 use mathlib.Core.List.{List, [], _∷_, _++_, map}
 use lib.ListN.{replicate}
 use Rattle.header.specs.Reading.{headerReading}
 use Rattle.layout.specs.Reading.{rasterReading, pixelsAfter, marksAfter}
-use Rattle.edges.specs.Files.{header, withWord, line, oneLine, twoOpen, environ}
+use Rattle.edges.specs.Files.{header, withWord, line, lineFrom, oneLine, bytesFrom, wordsFrom, twoOpen, environ}
 
 -- A file; the blocks of its header and the kind and size of its resolution, zeros where it is rejected; and of its reading
 -- the answer, the good lines, the end, and the buffers afterwards.
@@ -130,6 +130,43 @@ cases =
       pixels = blank ++ replicate 9 7;
     } ∷
     rejects (environ 3 97) 21 ∷
+    -- An offset of 3: the body's first pixel is the row's fourth, and five are left for it. In type 2 a spare byte follows them.
+    oneGood (bytesFrom 2 3 (5 ∷ 6 ∷ 7 ∷ 8 ∷ 9 ∷ 99 ∷ [])) (0 ∷ 0 ∷ 0 ∷ 5 ∷ 6 ∷ 7 ∷ 8 ∷ 9 ∷ []) 1038 ∷
+    oneGood (wordsFrom 3 3 (500 ∷ 600 ∷ 700 ∷ 800 ∷ 900 ∷ [])) (0 ∷ 0 ∷ 0 ∷ 500 ∷ 600 ∷ 700 ∷ 800 ∷ 900 ∷ []) 1042 ∷
+    oneGood (wordsFrom 9 3 (1 ∷ 3 ∷ 1 ∷ [])) (0 ∷ 0 ∷ 0 ∷ 0 ∷ 1 ∷ 1 ∷ 1 ∷ 0 ∷ []) 1038 ∷
+    oneGood (wordsFrom 10 3 (5 ∷ 2 ∷ 6 ∷ 3 ∷ [])) (0 ∷ 0 ∷ 0 ∷ 5 ∷ 5 ∷ 6 ∷ 6 ∷ 6 ∷ []) 1040 ∷
+    -- bodies that fit P, and totals below what is left
+    one (bytesFrom 2 3 (1 ∷ 2 ∷ 3 ∷ 4 ∷ 5 ∷ 6 ∷ 7 ∷ 8 ∷ [])) 6 blank 1040 ∷
+    one (wordsFrom 3 3 (1 ∷ 2 ∷ 3 ∷ 4 ∷ 5 ∷ 6 ∷ 7 ∷ 8 ∷ [])) 6 blank 1048 ∷
+    one (wordsFrom 9 3 (3 ∷ 2 ∷ 3 ∷ [])) 7 blank 1038 ∷
+    one (wordsFrom 10 3 (7 ∷ 8 ∷ [])) 7 blank 1036 ∷
+    one (wordsFrom 9 3 (1 ∷ 3 ∷ 0 ∷ [])) 8 blank 1038 ∷
+    one (wordsFrom 10 3 (7 ∷ 4 ∷ [])) 8 blank 1036 ∷
+    -- type 2 with P 3: an offset of 1 leaves two, and no spare byte follows them
+    reads (header 2 2 3 1 1 ++ lineFrom 3 1 1 (5 ∷ 6 ∷ [])) 0 1 1034 (0 ∷ (7 ∷ (7 ∷ []))) ((0 ∷ 5 ∷ 6 ∷ []) ++ replicate 14 7) ∷
+    reads (header 2 2 3 1 1 ++ lineFrom 4 1 1 (5 ∷ 6 ∷ 99 ∷ 99 ∷ [])) 1 0 1036 (6 ∷ (7 ∷ (7 ∷ []))) ((0 ∷ 0 ∷ 0 ∷ []) ++ replicate 14 7) ∷
+    -- an offset of 8, which leaves none: no words in types 2 and 3, an odd number that total 0 in type 9, counts of 0 in type 10
+    oneGood (wordsFrom 2 8 []) blank 1032 ∷
+    oneGood (wordsFrom 3 8 []) blank 1032 ∷
+    oneGood (wordsFrom 9 8 (0 ∷ [])) blank 1034 ∷
+    oneGood (wordsFrom 9 8 (0 ∷ 0 ∷ 0 ∷ [])) blank 1038 ∷
+    oneGood (wordsFrom 10 8 []) blank 1032 ∷
+    oneGood (wordsFrom 10 8 (7 ∷ 0 ∷ [])) blank 1036 ∷
+    one (wordsFrom 2 8 (5 ∷ [])) 6 blank 1034 ∷
+    one (wordsFrom 3 8 (5 ∷ [])) 6 blank 1034 ∷
+    one (wordsFrom 9 8 []) 6 blank 1032 ∷
+    one (wordsFrom 9 8 (0 ∷ 0 ∷ [])) 6 blank 1036 ∷
+    one (wordsFrom 9 8 (1 ∷ [])) 7 blank 1034 ∷
+    one (wordsFrom 10 8 (7 ∷ [])) 6 blank 1034 ∷
+    one (wordsFrom 10 8 (7 ∷ 1 ∷ [])) 7 blank 1036 ∷
+    -- an offset of 9, beyond the row, before any fault of the body and after a wrong number
+    one (wordsFrom 2 9 []) 5 blank 1032 ∷
+    one (wordsFrom 3 9 []) 5 blank 1032 ∷
+    one (wordsFrom 9 9 (0 ∷ [])) 5 blank 1034 ∷
+    one (wordsFrom 9 9 (0 ∷ 0 ∷ [])) 5 blank 1036 ∷
+    one (wordsFrom 10 9 []) 5 blank 1032 ∷
+    one (wordsFrom 10 65535 (7 ∷ 8 ∷ [])) 5 blank 1036 ∷
+    one (header 2 9 8 1 1 ++ lineFrom 3 2 9 (0 ∷ 0 ∷ [])) 4 blank 1034 ∷
     []
 
 -- every case is as the definitions give it

@@ -6,7 +6,7 @@ use lib.Seq.{sets}
 use Rattle.units.specs.Counts.{nBlocks, wordsOfBlocks, bytesOfBlocks}
 use Rattle.units.specs.LittleEndian.{u16Bytes}
 use Rattle.units.specs.Over.{zeros}
-use Rattle.units.specs.Words.{wordsToBytes}
+use Rattle.units.specs.Words.{wordsToBytes, wordCount}
 
 -- a file with a number of 16 bits put at a byte
 abbrev pub withWord : ℕ → ℕ → List ℕ → List ℕ
@@ -21,12 +21,23 @@ header n dtc ppl nol scn =
     (withWord 184 ppl (withWord 188 nol (sets (sets (zeros (bytesOfBlocks (nBlocks n) .0)) 195 (scn ∷ [])) 511 (3 ∷ []))))))
 
 -- a scanline with its header: W words to follow, of which two are the number and the offset
+abbrev pub lineFrom : ℕ → ℕ → ℕ → List ℕ → List ℕ
+lineFrom w number offset body = wordsToBytes (0x5900 ∷ (w ∷ (number ∷ (offset ∷ [])))) ++ body
+
+-- at the offset 0
 abbrev pub line : ℕ → ℕ → List ℕ → List ℕ
-line w number body = wordsToBytes (0x5900 ∷ (w ∷ (number ∷ (0 ∷ [])))) ++ body
+line w number body = lineFrom w number 0 body
 
 -- a file of two blocks with one scanline of P 8 that has a body of these words
 abbrev pub oneLine : ℕ → List ℕ → List ℕ
 oneLine dtc body = header 2 dtc 8 1 1 ++ line (length body + 2) 1 (wordsToBytes body)
+
+-- a file of two blocks with one scanline of P 8 that starts partway: its offset, and a body of these words or bytes
+abbrev pub bytesFrom : ℕ → ℕ → List ℕ → List ℕ
+bytesFrom dtc offset body = header 2 dtc 8 1 1 ++ lineFrom (wordCount body .0 + 2) 1 offset body
+
+abbrev pub wordsFrom : ℕ → ℕ → List ℕ → List ℕ
+wordsFrom dtc offset body = bytesFrom dtc offset (wordsToBytes body)
 
 -- a file of two blocks with two scanlines of P 8 without headers
 abbrev pub twoOpen : ℕ → List ℕ → List ℕ

@@ -83,20 +83,32 @@ rowsOf a b c = a ++ (b ++ (c ++ (7 ∷ [])))
 abbrev pub marksOf : ℕ → ℕ → ℕ → List ℕ
 marksOf a b c = a ∷ b ∷ c ∷ 7 ∷ []
 
--- a change of `three` to these marks and rows, whose chain goes to the end
-unfoldable pub ofThree : List ℕ → Bool → List ℕ → List ℕ → Pair
-ofThree g covered marks pixels =
+-- a change from these marks and rows to those, where both chains go to the end
+unfoldable pub whole : List ℕ → List ℕ → List ℕ → List ℕ → Bool → List ℕ → List ℕ → Pair
+whole f marks₁ pixels₁ g covered marks₂ pixels₂ =
     record {
-      first = three;
+      first = f;
       second = g;
       isChange = covered;
       end₁ = 1066;
       end₂ = 1066;
-      marks₁ = marksOf 0 0 0;
-      marks₂ = marks;
-      pixels₁ = rowsOf row1 row2 row3;
-      pixels₂ = pixels;
+      marks₁ = marks₁;
+      marks₂ = marks₂;
+      pixels₁ = pixels₁;
+      pixels₂ = pixels₂;
     }
+
+-- a change of `three`
+unfoldable pub ofThree : List ℕ → Bool → List ℕ → List ℕ → Pair
+ofThree g covered marks pixels = whole three (marksOf 0 0 0) (rowsOf row1 row2 row3) g covered marks pixels
+
+-- `three` with a second scanline that starts at the fourth pixel, and a change of it
+abbrev pub partway : List ℕ
+partway = set (set three 1044 3) 1048 5
+
+unfoldable pub ofPartway : List ℕ → Bool → List ℕ → List ℕ → Pair
+ofPartway g covered marks pixels =
+    whole partway (marksOf 0 0 0) (rowsOf row1 (0 ∷ 0 ∷ 0 ∷ 1 ∷ 1 ∷ 1 ∷ 1 ∷ 1 ∷ []) row3) g covered marks pixels
 
 -- `three` cut off in its last body, which has three bytes then; and with a wrong identifier in its second scanline
 abbrev pub cut : List ℕ
@@ -129,6 +141,11 @@ pairs =
     ofThree (set (set three 1032 4) 1065 1) true (marksOf 7 0 7) (rowsOf blank row2 blank) ∷
     -- the cut body of a lost line
     alike cut (set cut 1062 9) true 1052 (marksOf 0 0 1) (rowsOf row1 row2 blank) ∷
+    -- a line that starts partway: its runs so that it is good and another, and so that they total P
+    ofPartway (set (set partway 1046 2) 1048 3) true (marksOf 0 0 0) (rowsOf row1 (0 ∷ 0 ∷ 0 ∷ 0 ∷ 0 ∷ 1 ∷ 1 ∷ 1 ∷ []) row3) ∷
+    ofPartway (set partway 1048 8) true (marksOf 0 7 0) (rowsOf row1 blank row3) ∷
+    -- not covered: its offset
+    ofPartway (set partway 1044 2) false (marksOf 0 8 0) (rowsOf row1 blank row3) ∷
     -- not covered: the last byte of a header, and the first byte after a body, the identifier's free one
     ofThree (set three 1031 1) false (marksOf 5 0 0) (rowsOf blank row2 row3) ∷
     ofThree (set three 1038 1) false (marksOf 0 0 0) (rowsOf row1 row2 row3) ∷

@@ -41,16 +41,23 @@ bodyOf rest = cond (eqb (first (headRules (headOf rest))) 0) (take (bodySize (he
 abbrev pub lostRules : List ℕ → List ℕ → List Rule
 lostRules hd body = headRules hd ++ (rule 1 (ltb (length body) (bodySize hd .0)) ∷ [])
 
--- the line number and the pixel offset
-abbrev pub placementRules : ℕ → List ℕ → List Rule
-placementRules number hd = rule 4 (not (eqb (u16At hd 4) number)) ∷ rule 5 (not (eqb (u16At hd 6) 0)) ∷ []
+-- the pixel offset, which is the column of the body's first pixel, and the pixels of a row of p that are left for the body
+abbrev pub pixelOffset : List ℕ → ℕ
+pixelOffset hd = u16At hd 6
+
+abbrev pub bodyWidth : ℕ → List ℕ → ℕ
+bodyWidth p hd = p - pixelOffset hd
+
+-- the line number, and an offset beyond the row
+abbrev pub placementRules : ℕ → ℕ → List ℕ → List Rule
+placementRules p number hd = rule 4 (not (eqb (u16At hd 4) number)) ∷ rule 5 (ltb p (pixelOffset hd)) ∷ []
 
 -- the order of the statuses with headers
 abbrev pub statusRules : ℕ → ℕ → ℕ → List ℕ → List ℕ → List Rule
-statusRules t p number hd body = lostRules hd body ++ (placementRules number hd ++ bodyRules t body p)
+statusRules t p number hd body = lostRules hd body ++ (placementRules p number hd ++ bodyRules t body (bodyWidth p hd))
 
 -- The reading of a scanline: its status and its row. With a header it is settled by the data type, the row's length, the
--- wanted line number, the header's bytes and the body.
+-- wanted line number, the header's bytes and the body: the pixels before the offset are 0, and the body's follow them.
 pub record Reading : Type 0 where
   pub status : ℕ
   pub row : List ℕ
@@ -59,7 +66,7 @@ unfoldable pub reading : ℕ → ℕ → ℕ → List ℕ → List ℕ → Readi
 reading t p number hd body =
     record {
       status = first (statusRules t p number hd body);
-      row = rowOf (first (statusRules t p number hd body)) p (bodyPixels t body p);
+      row = rowOf (first (statusRules t p number hd body)) p (zeros (pixelOffset hd) ++ bodyPixels t body (bodyWidth p hd));
     }
 
 abbrev pub headedReading : ℕ → ℕ → ℕ → List ℕ → Reading

@@ -22,7 +22,7 @@ use Rattle.isolation.specs.Statement.{ChangedInBodies}
 use Rattle.isolation.specs.Covered.{blanked}
 use Rattle.isolation.specs.laws.Covered.{covered}
 use Rattle.edges.specs.Cases.{blank}
-use Rattle.edges.specs.Pairs.{sameBytes, isCovered, computedPair, held, three, ofThree, alike, pairs, AllPairs}
+use Rattle.edges.specs.Pairs.{sameBytes, isCovered, computedPair, held, three, whole, ofThree, ofPartway, alike, pairs, AllPairs}
 
 same-bytes : (a b : List ℕ) → sameBytes a b ≡ true → a ≡ b
 unfolding sameBytes
@@ -53,5 +53,5 @@ covered-is f g =
     )
 
 pub all-pairs : AllPairs
-unfolding pairs blank computedPair ofThree alike three held sameBytes isCovered blanked u16At u32At scan words wordsToBytes rejectionTo22 isDataType codecOf slotOccurs sharesSlot runPixels runTotal runsFrom headOf bodyOf reading isLost start reached readingAt statuses rows goodCount rasterRejection rasterReading pixelsAfter marksAfter
+unfolding pairs blank computedPair whole ofThree ofPartway alike three held sameBytes isCovered blanked u16At u32At scan words wordsToBytes rejectionTo22 isDataType codecOf slotOccurs sharesSlot runPixels runTotal runsFrom headOf bodyOf reading isLost start reached readingAt statuses rows goodCount rasterRejection rasterReading pixelsAfter marksAfter
 all-pairs = record { hold = refl; means = covered-is }

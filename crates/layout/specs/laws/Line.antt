@@ -4,18 +4,19 @@ use mathlib.Core.Path.{_≡_, refl, _∙_, ap}
 use mathlib.Core.Bool.{Bool, true, false, cond}
 use mathlib.Core.List.{List, [], _∷_, _++_}
 use native.Mathlib.Omega.{arith}
-use lib.ListN.{length, take, drop, replicate, length-take, length-drop, length-replicate}
+use lib.ListN.{length, take, drop, replicate, length-take, length-drop, length-replicate, length-append}
 use lib.Seq.{getD-take}
 use lib.Dec.{eqb, ltb}
 use borrow.Author.Tests.{lt-ltb, le-ltb, eq-eqb, ne-eqb, ltb-false, eqb-true, not-false}
 use Rattle.units.specs.Counts.{bytesOfWords, wordBytes}
 use Rattle.units.specs.LittleEndian.{byteAt, u16At}
+use Rattle.units.specs.Over.{zeros}
 use Rattle.units.specs.Rules.{rule, first}
 use Rattle.units.specs.laws.Rules.{NoneHolds, none-holds, first-here, first-later, both-none}
 use Rattle.codec.specs.Codec.{rowOf}
 use Rattle.codec.specs.Table.{bodyRules, bodyPixels, bodyExtent}
 use Rattle.codec.specs.laws.Lawful.{lawful}
-use Rattle.layout.specs.Scanline.{headOf, following, bodySize, headRules, bodyOf, lostRules, placementRules, reading, isLost, headedReading, openReading, headedStep, openStep, stepOf, readingOf}
+use Rattle.layout.specs.Scanline.{headOf, following, bodySize, headRules, bodyOf, lostRules, pixelOffset, bodyWidth, placementRules, reading, isLost, headedReading, openReading, headedStep, openStep, stepOf, readingOf}
 
 -- the header's fields, where they stand in the bytes that are left
 module _ (rest : List ℕ) where
@@ -127,35 +128,42 @@ kept rest h = not-lost rest (eqb-true (lostBy rest) 0 (not-false (eqb (lostBy re
 module _ (t p number : ℕ) (hd body : List ℕ) where
   pub status-lost : (first (lostRules hd body) ≡ 0 → ⊥) → reading t p number hd body .status ≡ first (lostRules hd body)
   unfolding reading
-  status-lost some = first-here (lostRules hd body) (placementRules number hd ++ bodyRules t body p) some
+  status-lost some = first-here (lostRules hd body) (placementRules p number hd ++ bodyRules t body (bodyWidth p hd)) some
 
   module _ (none : first (lostRules hd body) ≡ 0) where
-    past-lost : reading t p number hd body .status ≡ first (placementRules number hd ++ bodyRules t body p)
+    past-lost : reading t p number hd body .status ≡ first (placementRules p number hd ++ bodyRules t body (bodyWidth p hd))
     unfolding reading
-    past-lost = first-later (lostRules hd body) (placementRules number hd ++ bodyRules t body p) tt none
+    past-lost = first-later (lostRules hd body) (placementRules p number hd ++ bodyRules t body (bodyWidth p hd)) tt none
 
-    pub status-field : (first (placementRules number hd) ≡ 0 → ⊥) → reading t p number hd body .status ≡ first (placementRules number hd)
-    status-field some = past-lost ∙ first-here (placementRules number hd) (bodyRules t body p) some
+    pub status-field : (first (placementRules p number hd) ≡ 0 → ⊥) → reading t p number hd body .status ≡ first (placementRules p number hd)
+    status-field some = past-lost ∙ first-here (placementRules p number hd) (bodyRules t body (bodyWidth p hd)) some
 
-    pub status-body : first (placementRules number hd) ≡ 0 → reading t p number hd body .status ≡ first (bodyRules t body p)
-    status-body none₂ = past-lost ∙ first-later (placementRules number hd) (bodyRules t body p) tt none₂
+    pub status-body : first (placementRules p number hd) ≡ 0 → reading t p number hd body .status ≡ first (bodyRules t body (bodyWidth p hd))
+    status-body none₂ = past-lost ∙ first-later (placementRules p number hd) (bodyRules t body (bodyWidth p hd)) tt none₂
 
-  pub row-by-status : {n : ℕ} → reading t p number hd body .status ≡ n → reading t p number hd body .row ≡ rowOf n p (bodyPixels t body p)
+  pub row-by-status : {n : ℕ} → reading t p number hd body .status ≡ n
+      → reading t p number hd body .row ≡ rowOf n p (zeros (pixelOffset hd) ++ bodyPixels t body (bodyWidth p hd))
   unfolding reading
-  row-by-status e = ap (λ (s : ℕ). rowOf s p (bodyPixels t body p)) e
+  row-by-status e = ap (λ (s : ℕ). rowOf s p (zeros (pixelOffset hd) ++ bodyPixels t body (bodyWidth p hd))) e
+
+-- an offset that no test refuses lies within the row, or at its end
+pub offset-within : (p number : ℕ) (hd : List ℕ) → first (placementRules p number hd) ≡ 0 → pixelOffset hd ≤ p
+offset-within p number hd e =
+    ltb-false p (pixelOffset hd) (none-holds (placementRules p number hd) tt e .1 .0)
 
 -- what the status 0 says
 pub record NoFault (t p number : ℕ) (hd b : List ℕ) : Type 0 where
   pub frame : first (lostRules hd b) ≡ 0
-  pub fields : first (placementRules number hd) ≡ 0
-  pub body : first (bodyRules t b p) ≡ 0
+  pub fields : first (placementRules p number hd) ≡ 0
+  pub offset : pixelOffset hd ≤ p
+  pub body : first (bodyRules t b (bodyWidth p hd)) ≡ 0
 
 pub no-fault : (t p number : ℕ) (hd body : List ℕ) → reading t p number hd body .status ≡ 0 → NoFault t p number hd body
 unfolding reading
 no-fault t p number hd body h =
-    let a = both-none (lostRules hd body) (placementRules number hd ++ bodyRules t body p) tt h in
-    let b = both-none (placementRules number hd) (bodyRules t body p) tt (a .1) in
-    record { frame = a .0; fields = b .0; body = b .1 }
+    let a = both-none (lostRules hd body) (placementRules p number hd ++ bodyRules t body (bodyWidth p hd)) tt h in
+    let b = both-none (placementRules p number hd) (bodyRules t body (bodyWidth p hd)) tt (a .1) in
+    record { frame = a .0; fields = b .0; offset = offset-within p number hd (b .0); body = b .1 }
 
 -- A scanline uses no more than the bytes that are left, and none where it is lost. Its row has the length that is asked for.
 cond-within : (s : Bool) (n m : ℕ) → (s ≡ false → n ≤ m) → cond s 0 n ≤ m
@@ -168,6 +176,19 @@ rowOf-length n p xs h = go (eqb n 0) refl
     go : (s : Bool) → eqb n 0 ≡ s → length (cond s xs (replicate p 0)) ≡ p
     go true e = h (eqb-true n 0 e)
     go false e = length-replicate p 0
+
+-- with a header: the zeros before the offset and the body's pixels make up the row
+good-length : (t p number : ℕ) (hd body : List ℕ) → NoFault t p number hd body
+    → length (zeros (pixelOffset hd) ++ bodyPixels t body (bodyWidth p hd)) ≡ p
+good-length t p number hd body n =
+    let z : length (zeros (pixelOffset hd)) ≡ pixelOffset hd = length-replicate (pixelOffset hd) 0 in
+    omega (
+      arith,
+      z,
+      length-append (zeros (pixelOffset hd)) (bodyPixels t body (bodyWidth p hd)),
+      lawful t .full body (bodyWidth p hd) (n .body),
+      n .offset,
+    )
 
 module _ (scn t p : ℕ) (rest : List ℕ) where
   pub used-within : stepOf scn t p rest .used .0 ≤ length rest
@@ -199,8 +220,9 @@ module _ (scn t p : ℕ) (rest : List ℕ) where
       go : (s : Bool) → length (cond s (headedReading t p number rest) (openReading t p rest) .row) ≡ p
       go true =
           ap length (row-by-status t p number (headOf rest) (bodyOf rest) refl)
-          ∙ rowOf-length (reading t p number (headOf rest) (bodyOf rest) .status) p (bodyPixels t (bodyOf rest) p)
-          (λ e. lawful t .full (bodyOf rest) p (no-fault t p number (headOf rest) (bodyOf rest) e .body))
+          ∙ rowOf-length (reading t p number (headOf rest) (bodyOf rest) .status) p
+          (zeros (pixelOffset (headOf rest)) ++ bodyPixels t (bodyOf rest) (bodyWidth p (headOf rest)))
+          (λ e. good-length t p number (headOf rest) (bodyOf rest) (no-fault t p number (headOf rest) (bodyOf rest) e))
       go false =
           rowOf-length (bodyExtent t rest p .status) p (bodyPixels t (take (bodyExtent t rest p .used .0) rest) p)
           (lawful t .taken-full rest p)
