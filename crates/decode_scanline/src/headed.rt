@@ -5,7 +5,7 @@ ghost use lib.ListN.{length};
 ghost use Rattle.units.specs.Counts.{bytesOfWords};
 ghost use Rattle.units.specs.LittleEndian.{u16At};
 ghost use Rattle.units.specs.Rules.{first};
-ghost use Rattle.layout.specs.Scanline.{headedStep, headedReading, headOf, bodyOf, lostRules, placementRules};
+ghost use Rattle.layout.specs.Scanline.{headedStep, headedReading, headOf, bodyOf, lostRules, pixelOffset, placementRules};
 ghost use Rattle.decode_scanline.specs.Answer.{IsScan};
 use crate::Scanline;
 use decode_body::body_status;
@@ -26,7 +26,7 @@ pub fn scan_headed(dtc: u16, number: u16, p: usize, rest: &[u8]) -> Scanline
         };
     }
     let used = size_by(words_to_follow(rest));
-    let placement = placement_status(rest, number);
+    let placement = placement_status(rest, number, p);
     if placement != 0 {
         return Scanline {
             status: placement,
@@ -34,9 +34,10 @@ pub fn scan_headed(dtc: u16, number: u16, p: usize, rest: &[u8]) -> Scanline
             used,
         };
     }
+    let width = p - pixel_offset(rest);
     let end = used.0;
     Scanline {
-        status: body_status(dtc, &rest[8..end], p),
+        status: body_status(dtc, &rest[8..end], width),
         lost: false,
         used,
     }
@@ -79,15 +80,22 @@ fn lost_status(rest: &[u8]) -> u8
     0
 }
 
-// 4 or 5, for a line number or a pixel offset that is wrong, or 0.
-fn placement_status(rest: &[u8], number: u16) -> u8
+// A header's last word, the column of the body's first pixel.
+pub fn pixel_offset(rest: &[u8]) -> usize
+    ensures { λ r. ⌜ r ≡ pixelOffset (headOf (now (rest .entry))) ⌝ }
+{
+    u16_at(rest, 6) as usize
+}
+
+// 4 or 5, for a line number that is wrong or a pixel offset beyond the row, or 0.
+fn placement_status(rest: &[u8], number: u16, p: usize) -> u8
     requires { ⌜ 8 ≤ length (now rest) ⌝ }
-    ensures { λ r. ⌜ r ≡ first (placementRules number (headOf (now (rest .entry)))) ⌝ }
+    ensures { λ r. ⌜ r ≡ first (placementRules p number (headOf (now (rest .entry)))) ⌝ }
 {
     if u16_at(rest, 4) != number {
         return 4;
     }
-    if u16_at(rest, 6) != 0 {
+    if p < pixel_offset(rest) {
         return 5;
     }
     0

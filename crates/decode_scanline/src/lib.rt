@@ -7,11 +7,15 @@ mod open;
 mod regular;
 
 ghost use mathlib.Core.Path.{_≡_};
-ghost use lib.ListN.{length};
-ghost use Rattle.units.specs.Over.{over};
+ghost use mathlib.Core.List.{_++_};
+ghost use Prim.Native.Nat.{_-_, _≤_};
+ghost use lib.ListN.{length, drop};
+ghost use Rattle.units.specs.Counts.{wordBytes};
+ghost use Rattle.units.specs.Over.{over, zeros};
 ghost use Rattle.units.specs.Words.{wordCount, wordsToBytes};
+ghost use Rattle.codec.specs.Table.{bodyPixels};
 ghost use Rattle.layout.specs.Scanline.{stepOf, readingOf};
-ghost use Rattle.decode_scanline.specs.Answer.{IsScan, IsLine, bodyStart};
+ghost use Rattle.decode_scanline.specs.Answer.{IsScan, IsLine, bodyStart, firstColumn};
 use decode_body::paint_body;
 use decode_body::paint_body_bytes;
 pub use regular::is_regular;
@@ -51,8 +55,9 @@ pub fn read_scanline(scn: u8, dtc: u16, number: u16, rest: &[u8], row: &mut [u16
         return line;
     }
     let from = body_start(scn);
+    let column = first_column(scn, rest);
     let to = line.used.0;
-    paint_body(dtc, &rest[from..to], row);
+    paint_from(dtc, &rest[from..to], column, row);
     line
 }
 
@@ -62,16 +67,38 @@ pub fn read_scanline_bytes(scn: u8, dtc: u16, number: u16, rest: &[u8], row: &mu
     ensures { λ _. ⌜ now (row .exit) ≡ over (wordsToBytes (readingOf scn dtc (wordCount (now (row .entry)) .0) number (now (rest .entry)) .row)) (now (row .entry)) ⌝ }
 {
     let p = bytes_to_words(Bytes(row.len())).0;
-    let end = words_to_bytes(Words(p)).0;
     let line = scan_scanline(scn, dtc, number, p, rest);
     if line.status != 0 {
+        let end = words_to_bytes(Words(p)).0;
         clear(&mut row[..end]);
         return line;
     }
     let from = body_start(scn);
+    let column = first_column(scn, rest);
     let to = line.used.0;
-    paint_body_bytes(dtc, &rest[from..to], &mut row[..end]);
+    paint_bytes_from(dtc, &rest[from..to], column, p, row);
     line
+}
+
+// Paints the pixels of a body into a row from a column on, and clears the ones before it.
+fn paint_from(dtc: u16, body: &[u8], column: usize, row: &mut [u16])
+    requires { ⌜ column ≤ length (now row) ⌝ }
+    ensures { λ _. ⌜ now (row .exit) ≡ zeros column ++ over (bodyPixels dtc (now (body .entry)) (length (now (row .entry)) - column)) (drop column (now (row .entry))) ⌝ }
+{
+    fill(&mut row[..column], 0);
+    paint_body(dtc, body, &mut row[column..]);
+}
+
+// The same in the bytes of a row of p pixels.
+fn paint_bytes_from(dtc: u16, body: &[u8], column: usize, p: usize, row: &mut [u8])
+    requires { ⌜ column ≤ p ⌝ }
+    requires { ⌜ wordBytes p ≤ length (now row) ⌝ }
+    ensures { λ _. ⌜ now (row .exit) ≡ zeros (wordBytes column) ++ (over (wordsToBytes (bodyPixels dtc (now (body .entry)) (p - column))) (zeros (wordBytes (p - column))) ++ drop (wordBytes p) (now (row .entry))) ⌝ }
+{
+    let start = words_to_bytes(Words(column)).0;
+    let size = words_to_bytes(Words(p - column)).0;
+    clear(&mut row[..start]);
+    paint_body_bytes(dtc, body, &mut row[start..start + size]);
 }
 
 // Where the body of a scanline starts: after the header, where there is one.
@@ -79,4 +106,11 @@ pub fn body_start(scn: u8) -> usize
     ensures { λ r. ⌜ r ≡ bodyStart scn ⌝ }
 {
     if scn == 1 { 8 } else { 0 }
+}
+
+// The column of its body's first pixel: the pixel offset, where there is a header.
+fn first_column(scn: u8, rest: &[u8]) -> usize
+    ensures { λ r. ⌜ r ≡ firstColumn scn (now (rest .entry)) ⌝ }
+{
+    if scn == 1 { headed::pixel_offset(rest) } else { 0 }
 }

@@ -8,12 +8,11 @@ use native.Mathlib.Numerals.{add-one}
 use native.Mathlib.Omega.{arith}
 use lib.ListN.{length, take, length-drop}
 use lib.Dec.{eqb}
-use lib.Seq.{take-all}
 use borrow.Author.Tests.{not-true, not-false}
 use Rattle.units.specs.Counts.{wordBytes}
 use Rattle.units.specs.Over.{over, zeros}
 use Rattle.units.specs.Words.{wordsToBytes}
-use Rattle.units.specs.laws.Over.{over-full}
+use Rattle.units.specs.laws.Over.{over-all}
 use Rattle.units.specs.laws.Parts.{rest-is}
 use Rattle.units.specs.laws.Stores.{length-bytes}
 use Rattle.layout.specs.Scanline.{Reading, stepOf, readingOf}
@@ -107,4 +106,4 @@ module _ (r : Raster) (s : Storing (r .ppl)) (k : ℕ) (c : Chain) (h : ChainAt 
 pub bytes-full : (row old : List ℕ) (p : ℕ) → length row ≡ p → length old ≡ wordBytes p → over (wordsToBytes row) old ≡ wordsToBytes row
 bytes-full row old p l m =
     let n : length (wordsToBytes row) ≡ wordBytes p = length-bytes row ∙ ap wordBytes l in
-    over-full (wordsToBytes row) old (omega arith) ∙ take-all (length old) (wordsToBytes row) (omega arith)
+    over-all (wordsToBytes row) old (omega arith)

@@ -23,40 +23,44 @@ returns c =
     }
 
 -- where the body lies
-good : (c : tie.After-body-start)
-    → let s = c .before .before .before .scan-scanline in
-    let a = c .before .before .before .before .before .before .args in
-    GoodBody (a .dtc) (length (a .row .now)) (a .rest .now) (c .body-start .result) (s .result .used .0)
+good : (c : tie.After-first-column)
+    → let s = c .before .before .before .before .scan-scanline in
+    let a = c .before .before .before .before .before .before .before .args in
+    GoodBody (a .dtc) (length (a .row .now)) (a .rest .now) (c .before .body-start .result) (s .result .used .0) (c .first-column .result)
     (readingOf (a .scn) (a .dtc) (length (a .row .now)) (a .number) (a .rest .now) .row)
 good c =
-    let s = c .before .before .before .scan-scanline in
-    let a = c .before .before .before .before .before .before .args in
-    good-line (a .scn) (a .dtc) (length (a .row .now)) (a .number) (a .rest .now) (s .ensures) (c .body-start .ensures) (c .before .if1 .left)
+    let s = c .before .before .before .before .scan-scanline in
+    let a = c .before .before .before .before .before .before .before .args in
+    good-line (a .scn) (a .dtc) (length (a .row .now)) (a .number) (a .rest .now) (s .ensures) (c .before .body-start .ensures) (c .first-column .ensures)
+    (c .before .before .if1 .left)
 
-sub-paint-body : tie.Need-sub-paint-body
-sub-paint-body c = good c .starts
+sub-paint-from : tie.Need-sub-paint-from
+sub-paint-from c = good c .starts
 
-part-paint-body-start : tie.Need-part-paint-body-start
-part-paint-body-start c = good c .starts
+part-paint-from-start : tie.Need-part-paint-from-start
+part-paint-from-start c = good c .starts
 
-part-paint-body-end : tie.Need-part-paint-body-end
-part-paint-body-end c =
-    let a = c .before .before .before .before .before .before .args in
-    omega (arith, c .before .before .before .scan-scanline .ensures .used, used-within (a .scn) (a .dtc) (length (a .row .now)) (a .rest .now))
+part-paint-from-end : tie.Need-part-paint-from-end
+part-paint-from-end c =
+    let a = c .before .before .before .before .before .before .before .args in
+    omega (arith, c .before .before .before .before .scan-scanline .ensures .used, used-within (a .scn) (a .dtc) (length (a .row .now)) (a .rest .now))
+
+paint-from-requires : tie.Need-paint-from-requires
+paint-from-requires c κs = good (c .before .before) .fits
 
 returns-2 : tie.Need-returns-2
 returns-2 c =
-    let e = c .before .before .before .before .before in
-    let s = e .before .before .before .scan-scanline in
-    let a = c .before .before .before .before .before .before .before .before .before .before .before .args in
+    let f = c .before .before .before .before .before in
+    let s = f .before .before .before .before .scan-scanline in
+    let a = f .before .before .before .before .before .before .before .args in
     record {
       status = s .ensures .status;
       lost = s .ensures .lost;
       used = s .ensures .used;
       row-is =
-          c .before .before .paint-body .ensures
-          ∙ painted-line (a .scn) (a .dtc) (length (a .row .now)) (a .number) (a .rest .now) (s .ensures) (a .row .now) refl (e .body-start .ensures)
-          (e .before .if1 .left);
+          c .before .before .paint-from .ensures
+          ∙ painted-line (a .scn) (a .dtc) (length (a .row .now)) (a .number) (a .rest .now) (s .ensures) (f .before .body-start .ensures) (f .first-column .ensures)
+          (f .before .before .if1 .left) (a .row .now) refl;
     }
 
 pub read-scanline-spec : {M : Type 1} → statement M
@@ -68,9 +72,10 @@ read-scanline-spec =
     (λ c. search needs)
     returns
     (λ c κs. search needs)
-    sub-paint-body
-    part-paint-body-start
-    part-paint-body-end
     (λ c κs. search needs)
+    sub-paint-from
+    part-paint-from-start
+    part-paint-from-end
+    paint-from-requires
     (λ c. search needs)
     returns-2)

@@ -6,7 +6,7 @@ use mathlib.Core.Bool.{Bool, true, false}
 use mathlib.Core.List.{List, [], _∷_, _++_, append-nil}
 use native.Mathlib.Nat.{add-zero, add-suc, suc-add, zero-add}
 use native.Mathlib.Omega.{arith}
-use lib.ListN.{length, getD, take, drop, set, drop-of-length-le}
+use lib.ListN.{length, getD, take, drop, set, length-append, length-take, length-drop, drop-of-length-le}
 use lib.Dec.{ltb}
 use borrow.Author.Tests.{ltb-true, ltb-false}
 use native.Mathlib.Numerals.{add-one}
@@ -44,6 +44,12 @@ sets-over [] old = sym (over-nil old)
 sets-over (b ∷ new) [] = sets-past [] 0 (b ∷ new) (omega arith)
 sets-over (b ∷ new) (x ∷ old) = sets-cons b old 0 new ∙ ap (λ (l : List ℕ). b ∷ l) (sets-over new old)
 
+-- the buffer's length stays
+pub length-over : (new old : List ℕ) → length (over new old) ≡ length old
+unfolding over
+length-over new old =
+    omega (arith, length-append (take (length old) new) (drop (length new) old), length-take (length old) new, length-drop (length new) old)
+
 -- more bytes behind the first, and all of them where there is room
 pub over-append : (a b old : List ℕ) → over (a ++ b) old ≡ sets (over a old) (length a) b
 over-append a b old = rw (← sets-over (a ++ b) old, ← sets-over a old, sets-append old 0 a b, zero-add (length a))
@@ -62,6 +68,10 @@ sets-part (x ∷ l) (suc at) vs = sets-cons x l at vs ∙ ap (λ (r : List ℕ).
 pub over-full : (new old : List ℕ) → length old ≤ length new → over new old ≡ take (length old) new
 unfolding over
 over-full new old h = rw (drop-of-length-le old {i = length new} h) (append-nil (take (length old) new))
+
+-- as many bytes as there is room for
+pub over-all : (new old : List ℕ) → length new ≡ length old → over new old ≡ new
+over-all new old e = over-full new old (omega arith) ∙ take-all (length old) new (omega arith)
 
 -- no more than there is room for
 pub over-taken : (new old : List ℕ) → over (take (length old) new) old ≡ over new old

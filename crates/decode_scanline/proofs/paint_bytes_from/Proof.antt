@@ -1,0 +1,56 @@
+use Prim.Native.Nat.{ℕ, _+_, _-_, _≤_}
+use native.Mathlib.Omega.{arith}
+use mathlib.Core.Path.{_≡_, sym}
+use lib.ListN.{length}
+use lib.Seq.{length-take-le}
+use borrow.Author.Needs.{needs}
+use Rattle.units.specs.Counts.{wordBytes}
+use Rattle.codec.specs.Table.{bodyPixels}
+use Rattle.decode_scanline.specs.laws.Partway.{bytes-painted}
+use Rattle.decode_scanline.proofs.paint_bytes_from.Statement.{statement}
+use Rattle.decode_scanline.proofs.paint_bytes_from.Tie as tie
+
+slice-aggregate-clear : tie.Need-slice-aggregate-clear
+slice-aggregate-clear c =
+    let a = c .before .before .before .before .before .args in
+    sym (length-take-le _ (a .row .now) (omega arith))
+
+-- a row's length is held in 64 bits, and so are the bytes of its pixels
+start-is : (c : tie.After-words-to-bytes2) → c .before .words-to-bytes .result .0 ≡ wordBytes (c .before .before .before .before .args .column)
+start-is c =
+    let held : length (c .before .before .before .before .args .row .now) ≤ 18446744073709551615 = omega arith in
+    omega arith
+
+size-is : (c : tie.After-words-to-bytes2)
+    → let a = c .before .before .before .before .args in c .words-to-bytes2 .result .0 ≡ wordBytes (a .p - a .column)
+size-is c =
+    let held : length (c .before .before .before .before .args .row .now) ≤ 18446744073709551615 = omega arith in
+    omega arith
+
+returns : tie.Need-returns
+returns c =
+    let f = c .before .before .before .before .before .before in
+    let w = f .before .before in
+    let a = w .before .before .before .before .args in
+    let fits : w .before .words-to-bytes .result .0 + w .words-to-bytes2 .result .0 ≤ length (a .row .now) = omega (arith, start-is w, size-is w) in
+    bytes-painted (w .before .words-to-bytes .result .0) (a .row .now) _ (omega arith) (f .clear .ensures) (w .words-to-bytes2 .result .0) fits (a .column) (a .p)
+    (start-is w) (size-is w) (omega arith) _ (λ (n : ℕ). bodyPixels (a .dtc) (a .body .now) n)
+    (c .before .before .paint-body-bytes .ensures)
+
+pub paint-bytes-from-spec : {M : Type 1} → statement M
+paint-bytes-from-spec =
+    tie.close
+    (tie.spec
+    (λ c κs. search needs)
+    (λ c. search needs)
+    (λ c κs. search needs)
+    (λ c. search needs)
+    slice-aggregate-clear
+    (λ c κs. search needs)
+    (λ c. search needs)
+    (λ c. search needs)
+    (λ c. search needs)
+    (λ c. search needs)
+    (λ c κs. search needs)
+    (λ c. search needs)
+    returns)
