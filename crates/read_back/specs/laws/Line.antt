@@ -7,16 +7,17 @@ use native.Mathlib.Omega.{arith}
 use lib.ListN.{length, take, drop, length-append}
 use lib.Seq.{take-at}
 use lib.Dec.{eqb}
-use borrow.Author.Tests.{eq-eqb, eqb-true, eqb-false}
+use borrow.Author.Tests.{eq-eqb, le-ltb, eqb-true, eqb-false}
 use Rattle.units.specs.Counts.{bytesOfWords}
 use Rattle.units.specs.LittleEndian.{byteAt, u16At}
+use Rattle.units.specs.Over.{zeros}
 use Rattle.units.specs.Rules.{first}
 use Rattle.units.specs.Words.{wordsToBytes, wordCount}
 use Rattle.codec.specs.declared.Extent.{Extent}
 use Rattle.codec.specs.Codec.{rowOf}
 use Rattle.codec.specs.Table.{codecOf, bodyRules, bodyPixels, bodyExtent, bodyBytes}
 use Rattle.codec.specs.laws.RoundTrip.{ReadBack}
-use Rattle.layout.specs.Scanline.{headOf, bodyOf, following, placementRules, Reading, reading, Step, isLost, headedReading, openReading, headedStep, openStep, stepOf, readingOf}
+use Rattle.layout.specs.Scanline.{headOf, bodyOf, following, pixelOffset, bodyWidth, placementRules, Reading, reading, Step, isLost, headedReading, openReading, headedStep, openStep, stepOf, readingOf}
 use Rattle.layout.specs.laws.Line.{lostBy, lost-not, not-lost, is-not-lost, status-body, row-by-status, head-word}
 use Rattle.encode_raster.specs.File.{lineHeader, lineBytes}
 
@@ -73,11 +74,14 @@ module _ (number : ℕ) (body rest : List ℕ) where
       ∙ ap (take (4 + bytesOfWords (following (headOf whole)) .0 - 8)) after
       ∙ take-at body rest (4 + bytesOfWords (following (headOf whole)) .0 - 8) n
 
-  placed : first (placementRules number (headOf whole)) ≡ 0
-  placed =
+  offset-back : pixelOffset (headOf whole) ≡ 0
+  offset-back = head-word whole 6 (omega arith) ∙ offset
+
+  placed : (p : ℕ) → first (placementRules p number (headOf whole)) ≡ 0
+  placed p =
       simp (
         eq-eqb (u16At (headOf whole) 4) number (head-word whole 4 (omega arith) ∙ line-number),
-        eq-eqb (u16At (headOf whole) 6) 0 (head-word whole 6 (omega arith) ∙ offset),
+        le-ltb p (pixelOffset (headOf whole)) (omega (arith, offset-back)),
       )
 
 headed : (t number : ℕ) (row rest : List ℕ) → ReadBack (codecOf t) row
@@ -88,16 +92,19 @@ headed t number row rest b =
     let all = whole number body rest in
     let k = kept number body rest (b .headed-whole) in
     let e : bodyOf all ≡ body = body-back number body rest (b .headed-whole) in
+    let o : pixelOffset (headOf all) ≡ 0 = offset-back number body rest in
+    let w : bodyWidth (length row) (headOf all) ≡ length row = omega arith in
     let s : reading t (length row) number (headOf all) (bodyOf all) .status ≡ 0 =
-    status-body t (length row) number (headOf all) (bodyOf all) k (placed number body rest)
-    ∙ ap (λ (x : List ℕ). first (bodyRules t x (length row))) e
+    status-body t (length row) number (headOf all) (bodyOf all) k (placed number body rest (length row))
+    ∙ ap₂ (λ (x : List ℕ) (n : ℕ). first (bodyRules t x n)) e w
     ∙ b .headed-status in
     let l : isLost all ≡ false = is-not-lost all k in
     record {
       status = s;
       pixels =
           row-by-status t (length row) number (headOf all) (bodyOf all) s
-          ∙ ap (λ (x : List ℕ). bodyPixels t x (length row)) e
+          ∙ ap (λ (n : ℕ). zeros n ++ bodyPixels t (bodyOf all) (bodyWidth (length row) (headOf all))) o
+          ∙ ap₂ (λ (x : List ℕ) (n : ℕ). bodyPixels t x n) e w
           ∙ b .headed-pixels;
       lost = l;
       used = rw l (omega (arith, not-lost all k .size, ap length e, length-line number body rest));
