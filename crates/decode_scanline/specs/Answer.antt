@@ -1,28 +1,12 @@
--- What scanning a scanline answers, what reading it into a row of pixels leaves there, and where its body and its body's first pixel
--- are.
+-- What reading a scanline into a row of pixels answers and leaves there.
 use Prim.Native.Nat.{ℕ}
 use mathlib.Core.Path.{_≡_}
-use mathlib.Core.Bool.{cond}
 use mathlib.Core.List.{List}
-use lib.Dec.{eqb}
-use Rattle.layout.specs.Scanline.{Reading, Step, headOf, pixelOffset}
-use Rattle.decode_scanline.specs.declared.Scanline.{Scanline}
-
-pub record IsScan (s : Step) (x : Reading) (r : Scanline) : Type 0 where
-  pub status : r .status ≡ x .status
-  pub lost : r .lost ≡ s .lost
-  pub used : r .used .0 ≡ s .used .0
+use Rattle.layout.specs.Scanline.{Reading, Step}
+use Rattle.scan_scanline.specs.declared.Scanline.{Scanline}
 
 pub record IsLine (s : Step) (x : Reading) (r : Scanline) (row : List ℕ) : Type 0 where
   pub status : r .status ≡ x .status
   pub lost : r .lost ≡ s .lost
   pub used : r .used .0 ≡ s .used .0
   pub row-is : row ≡ x .row
-
--- after the header, where there is one
-abbrev pub bodyStart : ℕ → ℕ
-bodyStart scn = cond (eqb scn 1) 8 0
-
--- the column of the body's first pixel: the pixel offset, where there is a header
-abbrev pub firstColumn : ℕ → List ℕ → ℕ
-firstColumn scn rest = cond (eqb scn 1) (pixelOffset (headOf rest)) 0

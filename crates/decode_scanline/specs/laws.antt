@@ -1,3 +1,2 @@
-pub mod Body
+pub mod Painted
 pub mod Partway
-pub mod Regular

@@ -1,11 +1,7 @@
-// One scanline of a raster, with a header or without, from the bytes that are left of it.
+// One scanline of a raster, with a header or without, read from the bytes that are left of it.
 //
-// It is scanned first: its status, the paper's mark, and where the next one starts. Then the row that is lent is filled, with the
-// scanline's pixels where its status is 0, else with zeros. A row has 16 bits for each pixel, or two bytes, low byte first.
-mod headed;
-mod open;
-mod regular;
-
+// It is scanned first. Then the row that is lent is filled, with the scanline's pixels where its status is 0, else with zeros. A row has
+// 16 bits for each pixel, or two bytes, low byte first.
 ghost use mathlib.Core.Path.{_≡_};
 ghost use mathlib.Core.List.{_++_};
 ghost use Prim.Native.Nat.{_-_, _≤_};
@@ -15,35 +11,20 @@ ghost use Rattle.units.specs.Over.{over, zeros};
 ghost use Rattle.units.specs.Words.{wordCount, wordsToBytes};
 ghost use Rattle.codec.specs.Table.{bodyPixels};
 ghost use Rattle.layout.specs.Scanline.{stepOf, readingOf};
-ghost use Rattle.decode_scanline.specs.Answer.{IsScan, IsLine, bodyStart, firstColumn};
+ghost use Rattle.scan_scanline.specs.Answer.{IsScan};
+ghost use Rattle.decode_scanline.specs.Answer.{IsLine};
 use decode_body::paint_body;
 use decode_body::paint_body_bytes;
-pub use regular::is_regular;
-pub use regular::regular_size;
+use scan_scanline::Scanline;
+use scan_scanline::body_start;
+use scan_scanline::first_column;
+use scan_scanline::scan_scanline;
 use slices::clear;
 use slices::fill;
 use units::Bytes;
 use units::Words;
 use units::bytes_to_words;
 use units::words_to_bytes;
-
-// The status of a scanline, whether the ones after it are lost with it, and how many bytes on the next one starts.
-pub struct Scanline {
-    pub status: u8,
-    pub lost: bool,
-    pub used: Bytes,
-}
-
-// Scans a scanline of p pixels. `scn` and `dtc` are the raster's SCN and data type, and `number` the line number that its header
-// must have.
-pub fn scan_scanline(scn: u8, dtc: u16, number: u16, p: usize, rest: &[u8]) -> Scanline
-    ensures { λ r. ⌜ IsScan (stepOf scn dtc p (now (rest .entry))) (readingOf scn dtc p number (now (rest .entry))) r ⌝ }
-{
-    if scn == 1 {
-        return headed::scan_headed(dtc, number, p, rest);
-    }
-    open::scan_open(dtc, p, rest)
-}
 
 // Reads a scanline into a row of pixels.
 pub fn read_scanline(scn: u8, dtc: u16, number: u16, rest: &[u8], row: &mut [u16]) -> Scanline
@@ -99,18 +80,4 @@ fn paint_bytes_from(dtc: u16, body: &[u8], column: usize, p: usize, row: &mut [u
     let size = words_to_bytes(Words(p - column)).0;
     clear(&mut row[..start]);
     paint_body_bytes(dtc, body, &mut row[start..start + size]);
-}
-
-// Where the body of a scanline starts: after the header, where there is one.
-pub fn body_start(scn: u8) -> usize
-    ensures { λ r. ⌜ r ≡ bodyStart scn ⌝ }
-{
-    if scn == 1 { 8 } else { 0 }
-}
-
-// The column of its body's first pixel: the pixel offset, where there is a header.
-fn first_column(scn: u8, rest: &[u8]) -> usize
-    ensures { λ r. ⌜ r ≡ firstColumn scn (now (rest .entry)) ⌝ }
-{
-    if scn == 1 { headed::pixel_offset(rest) } else { 0 }
 }

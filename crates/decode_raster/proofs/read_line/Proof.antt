@@ -7,7 +7,7 @@ use Rattle.layout.specs.Scanline.{stepOf, readingOf}
 use Rattle.layout.specs.Chain.{rasterOf}
 use Rattle.layout.specs.laws.Chain.{start-within, good-most}
 use Rattle.decode_scanline.specs.Answer.{IsLine}
-use Rattle.decode_scanline.specs.laws.Body.{scan-of}
+use Rattle.decode_scanline.specs.laws.Painted.{scan-of}
 use Rattle.decode_raster.specs.laws.Answer.{asPixels}
 use Rattle.decode_raster.specs.laws.Steps.{next-within, one-most, step-lost, step-on}
 use borrow.Author.Needs.{needs}

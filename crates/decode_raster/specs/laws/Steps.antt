@@ -19,8 +19,8 @@ use Rattle.layout.specs.Scanline.{Reading, stepOf, readingOf}
 use Rattle.layout.specs.Chain.{Raster, from, stepAt, start, reached, numberOf, readingAt, oneIfGood, goodCount}
 use Rattle.layout.specs.laws.Line.{used-within}
 use Rattle.layout.specs.laws.Chain.{start-suc, reached-suc, reading-reached, reading-unreached, unreached-start, unreached-suc, good-suc}
-use Rattle.decode_scanline.specs.declared.Scanline.{Scanline}
-use Rattle.decode_scanline.specs.Answer.{IsScan}
+use Rattle.scan_scanline.specs.declared.Scanline.{Scanline}
+use Rattle.scan_scanline.specs.Answer.{IsScan}
 use Rattle.decode_raster.specs.declared.Chain.{Chain}
 use Rattle.decode_raster.specs.laws.Answer.{Storing, ChainAt, Stepped}
 

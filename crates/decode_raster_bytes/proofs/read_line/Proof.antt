@@ -8,7 +8,7 @@ use Rattle.layout.specs.Scanline.{stepOf, readingOf}
 use Rattle.layout.specs.Chain.{rasterOf}
 use Rattle.layout.specs.laws.Chain.{start-within, good-most}
 use Rattle.layout.specs.laws.Line.{length-row}
-use Rattle.decode_scanline.specs.Answer.{IsScan}
+use Rattle.scan_scanline.specs.Answer.{IsScan}
 use Rattle.decode_raster.specs.laws.Answer.{asBytes}
 use Rattle.decode_raster.specs.laws.Steps.{next-within, one-most, step-on, bytes-full}
 use borrow.Author.Needs.{needs}

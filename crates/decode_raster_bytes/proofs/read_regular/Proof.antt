@@ -17,9 +17,9 @@ use Rattle.layout.specs.Chain.{Raster, rasterOf, from}
 use Rattle.layout.specs.Scanline.{stepOf, readingOf}
 use Rattle.layout.specs.laws.Chain.{start-within}
 use Rattle.layout.specs.laws.Line.{length-row}
-use Rattle.decode_scanline.specs.Answer.{IsScan, bodyStart}
-use Rattle.decode_scanline.specs.Regular.{regularSize, isRegular}
-use Rattle.decode_scanline.specs.laws.Regular.{goodScan, Regular, regular}
+use Rattle.scan_scanline.specs.Answer.{IsScan, bodyStart}
+use Rattle.scan_scanline.specs.Regular.{regularSize, isRegular}
+use Rattle.scan_scanline.specs.laws.Regular.{goodScan, Regular, regular}
 use Rattle.decode_raster.specs.declared.Chain.{Chain}
 use Rattle.decode_raster.specs.laws.Answer.{asBytes, Fits, Stepped}
 use Rattle.decode_raster.specs.laws.Steps.{step-on, bytes-full}

@@ -15,6 +15,10 @@ slice-aggregate-clear c =
     let a = c .before .before .before .before .before .args in
     sym (length-take-le _ (a .row .now) (omega arith))
 
+-- what is lent lies within the row
+part-paint-body-bytes-end : tie.Need-part-paint-body-bytes-end
+part-paint-body-bytes-end c = search needs
+
 -- a row's length is held in 64 bits, and so are the bytes of its pixels
 start-is : (c : tie.After-words-to-bytes2) → c .before .words-to-bytes .result .0 ≡ wordBytes (c .before .before .before .before .args .column)
 start-is c =
@@ -50,7 +54,7 @@ paint-bytes-from-spec =
     (λ c. search needs)
     (λ c. search needs)
     (λ c. search needs)
-    (λ c. search needs)
+    part-paint-body-bytes-end
     (λ c κs. search needs)
     (λ c. search needs)
     returns)

@@ -11,7 +11,7 @@ use Rattle.decode_scanline.proofs.paint_from.Tie as tie
 slice-aggregate-fill : tie.Need-slice-aggregate-fill
 slice-aggregate-fill c =
     let a = c .before .before .before .args in
-    sym (length-take-le (a .column) (a .row .now) (omega arith))
+    sym (length-take-le _ (a .row .now) (omega arith))
 
 returns : tie.Need-returns
 returns c =

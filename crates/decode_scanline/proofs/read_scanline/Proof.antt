@@ -3,7 +3,8 @@ use mathlib.Core.Path.{_≡_, refl, sym, _∙_}
 use lib.ListN.{length}
 use borrow.Author.Needs.{needs}
 use Rattle.layout.specs.laws.Line.{used-within}
-use Rattle.decode_scanline.specs.laws.Body.{GoodBody, blank-line, good-line, painted-line}
+use Rattle.scan_scanline.specs.laws.Body.{GoodBody, blank-line, good-line}
+use Rattle.decode_scanline.specs.laws.Painted.{painted-line}
 use Rattle.layout.specs.Scanline.{readingOf}
 use Rattle.decode_scanline.proofs.read_scanline.Statement.{statement}
 use Rattle.decode_scanline.proofs.read_scanline.Tie as tie
@@ -59,8 +60,7 @@ returns-2 c =
       used = s .ensures .used;
       row-is =
           c .before .before .paint-from .ensures
-          ∙ painted-line (a .scn) (a .dtc) (length (a .row .now)) (a .number) (a .rest .now) (s .ensures) (f .before .body-start .ensures) (f .first-column .ensures)
-          (f .before .before .if1 .left) (a .row .now) refl;
+          ∙ painted-line (good f) (a .row .now) refl;
     }
 
 pub read-scanline-spec : {M : Type 1} → statement M

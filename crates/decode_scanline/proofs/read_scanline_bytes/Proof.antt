@@ -10,8 +10,9 @@ use Rattle.units.specs.Over.{over, zeros}
 use Rattle.units.specs.Words.{wordCount, wordsToBytes}
 use Rattle.layout.specs.Scanline.{stepOf, readingOf}
 use Rattle.layout.specs.laws.Line.{used-within}
-use Rattle.decode_scanline.specs.Answer.{IsScan}
-use Rattle.decode_scanline.specs.laws.Body.{GoodBody, blank-line, good-line, painted-bytes, cleared-bytes}
+use Rattle.scan_scanline.specs.Answer.{IsScan}
+use Rattle.scan_scanline.specs.laws.Body.{GoodBody, blank-line, good-line}
+use Rattle.decode_scanline.specs.laws.Painted.{painted-bytes, cleared-bytes}
 use Rattle.decode_scanline.proofs.read_scanline_bytes.Statement.{statement}
 use Rattle.decode_scanline.proofs.read_scanline_bytes.Tie as tie
 
@@ -44,7 +45,7 @@ end-fits c = omega (arith, end-is c)
 slice-aggregate-clear : tie.Need-slice-aggregate-clear
 slice-aggregate-clear c =
     let w = c .before in
-    sym (length-take-le _ (w .before .before .before .before .before .before .before .args .row .now) (end-fits w))
+    sym (length-take-le _ (w .before .before .before .before .before .before .before .args .row .now) (omega (arith, end-fits w)))
 
 returns : tie.Need-returns
 returns c =
@@ -96,8 +97,7 @@ returns-2 c =
     let a = b .before .before .before .args in (
       scanned k,
       c .before .before .paint-bytes-from .ensures
-          ∙ painted-bytes (a .scn) (a .dtc) (b .bytes-to-words .result .0) (a .number) (a .rest .now) (k .before .scan-scanline .ensures) (f .before .body-start .ensures)
-          (f .first-column .ensures) (f .before .before .if1 .left) (a .row .now) (room b)
+          ∙ painted-bytes (good f) (a .row .now) (room b)
           ∙ ap (λ (n : ℕ). over (wordsToBytes (readingOf (a .scn) (a .dtc) n (a .number) (a .rest .now) .row)) (a .row .now)) (count-is b),
     )
 
