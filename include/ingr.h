@@ -111,14 +111,15 @@ extern "C" {
 #define INGR_MARK_WORDS_TO_FOLLOW 3
 /* The line number is not the one wanted, 1 in the first scanline and one more in each. */
 #define INGR_MARK_LINE_NUMBER 4
-/* The pixel offset is not 0. */
+/* The pixel offset, the column of the body's first pixel, is above PPL. */
 #define INGR_MARK_PIXEL_OFFSET 5
-/* The body has a wrong count of words: types 2 and 3 not what PPL needs, type 9 an even one, type
- * 10 an odd one. */
+/* The body has a wrong count of words: types 2 and 3 not what PPL less the pixel offset needs, type
+ * 9 an even one, type 10 an odd one. */
 #define INGR_MARK_WORD_COUNT 6
-/* Its runs total more than PPL; without scanline headers it is lost. */
+/* Its runs total more than PPL less the pixel offset; without scanline headers, which have the
+ * offset, more than PPL, and it is lost. */
 #define INGR_MARK_TOTAL_ABOVE 7
-/* Its runs total less than PPL. */
+/* Its runs total less than PPL less the pixel offset. */
 #define INGR_MARK_TOTAL_BELOW 8
 /* It follows a lost scanline, so nothing is known of it. */
 #define INGR_MARK_NOT_REACHED 9
@@ -202,7 +203,7 @@ uint32_t ingr_header(const uint8_t *file, size_t file_size,
  * 0: every scanline is good. 1: not every one. In both cases
  *   pixels  has the first 2 x PPL x NOL bytes written: PPL pixels of two bytes, low byte first,
  *           for each scanline in turn. In type 9 a pixel is 0 (OFF) or 1 (ON). The pixels of a
- *           refused scanline are all zero;
+ *           refused scanline are all zero, and so are those before a scanline's pixel offset;
  *   marks   has the first NOL bytes written: an INGR_MARK_ constant for each scanline;
  *   answer  has the first 8 bytes written: the number of scanlines that are marked 0, and the end,
  *           the byte of the file after the last scanline, or the first byte of the lost one. Bytes

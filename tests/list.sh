@@ -44,6 +44,11 @@ rebuilt() { [ "$status" = 0 ] && [ "$(cat "$room/out")" = "built anew" ] && [ "$
 "$copy/target/bin/listing" <"$copy/samples/sideways.rle" | cat "$room/right" - >"$room/both"
 try "two samples list as the README shows them" diff "$room/both" <(sed -n '/^    type 9/,/^$/s/^    //p' README.md)
 
+# What the offsets skip is blank in the other, which has no offset.
+"$copy/target/bin/listing" <"$copy/samples/boundary.rle" >"$room/whole"
+"$copy/target/bin/listing" <"$copy/samples/margin.rle" >"$room/skipped"
+try "the sample with its margin skipped lists as the whole one" cmp "$room/whole" "$room/skipped"
+
 list "$copy" ./list samples/boundary_damaged.rle
 try "a file, and nothing but its listing" listed
 list / "$copy/list" "${sample#/}"
