@@ -45,7 +45,7 @@ pub const RIGHT: &str = "right";
 
 /// Those whose pairs must show it by themselves, and what is told.
 pub const OF_PAIRS: [(&str, &str); 9] = [
-    ("refused-row-unpainted", "and not blank"),
+    ("refused-row-unpainted", "differs, but its body does not"),
     ("unpainted-after-lost", "differs, but its body does not"),
     ("last-sheet-under-damage", "and not blank"),
     ("pixels-high-byte-first", "not read by its own header and body"),

@@ -17,7 +17,7 @@ use std::thread;
 const SHORT_PATIENCE: &str = "300";
 
 /// Calls that the right functions must pass; some three quarters of them are always made.
-const CALLS: &str = "20000";
+const CALLS: &str = "22000";
 
 const RUNS_ON: &str = "runs on and was stopped";
 
