@@ -8,6 +8,10 @@
 /* A number below `limit` by chance, the same in every run. */
 uint32_t chance(uint32_t limit);
 
+/* Words of a file, low byte first. */
+uint32_t word(const uint8_t *at);
+void put_word(uint8_t *at, uint32_t value);
+
 /* How many runs a line has: a number of them, or one of these. */
 enum runs { NOISE = -1, SHORT_RUNS = 0 /* of 1 to 4 pixels */ };
 
