@@ -91,6 +91,17 @@ void spoil(uint8_t *file, size_t size, enum damage damage)
     }
 }
 
+void indent(uint8_t *file, uint32_t columns)
+{
+    const uint32_t nol = word(file + 188);
+    put_word(file + 184, word(file + 184) + columns);
+    size_t at = 1024;
+    for (uint32_t k = 0; k < nol; k++) {
+        put_word(file + at + 6, columns);
+        at += 4 + 2 * word(file + at + 2);
+    }
+}
+
 void environ_v(uint8_t *file)
 {
     memset(file, 0, ENVIRON_V_BYTES);

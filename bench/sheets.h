@@ -23,6 +23,10 @@ enum damage { NONE, EACH_SHORT, EVERY_SECOND_SHORT, LOST_IN_THE_MIDDLE };
 
 void spoil(uint8_t *file, size_t size, enum damage damage);
 
+/* Lets all lines of a file with scanline headers start so many columns farther right, and makes the
+ * lines as much longer. */
+void indent(uint8_t *file, uint32_t columns);
+
 /* Makes a file of one pixel with an Environ-V table of 256 entries. */
 enum { ENVIRON_V_BYTES = 512 * 6 + 1 };
 void environ_v(uint8_t *file);
