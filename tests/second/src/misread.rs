@@ -119,10 +119,11 @@ pub fn whole_row_wanted(line: &mut Headed) {
 
 /// Bytes with a spare one where PPL is odd.
 pub fn spare_byte_by_ppl(line: &mut Headed) {
-    if line.kind != 2 || !line.is_placed() || line.offset % 2 == 0 {
+    let rest = line.ppl.saturating_sub(line.offset);
+    if line.kind != 2 || !line.is_placed() || rest % 2 == line.ppl % 2 {
         return;
     }
-    let words = (line.ppl - line.offset) / 2 + line.ppl % 2;
+    let words = rest / 2 + line.ppl % 2;
     line.refuse(6);
     if line.body.len() == 2 * words {
         *line.mark = 0;

@@ -110,17 +110,15 @@ fn partway(rng: &mut Rng) -> Vec<Vec<u8>> {
             let header = Draft { scn: 1, ppl: ppl as u32, nol: 3, ..Draft::plain(kind, 2) };
             for offset in BTreeSet::from([0, 1, ppl / 2, ppl - 1, ppl, ppl + 1, 65_535]) {
                 for (pixels, flaw) in fits_and_misfits(kind, ppl, offset) {
-                    let mut line = |k| {
+                    let [first, last] = [1, 3].map(|k| {
                         let body = body_of(rng, kind, pixels);
                         let mut line = Line::starting(k, offset, body);
                         if let Some(flaw) = flaw {
                             damage(rng, &mut line, kind, ppl, flaw);
                         }
                         line
-                    };
-                    let ends = [1, 3].map(&mut line);
+                    });
                     let middle = Line::new(2, body_of(rng, kind, ppl));
-                    let [first, last] = ends;
                     all.push(headed(&header, &[first, middle, last]));
                 }
             }
