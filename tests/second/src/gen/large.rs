@@ -35,7 +35,7 @@ pub fn fixed(rng: &mut Rng) -> Vec<Vec<u8>> {
                 all.push(some_sheet(rng, kind, scn, width, height));
             }
         }
-        for width in [4_097, 65_535] {
+        for width in [4_097, 65_534, 65_535] {
             all.extend(partway(rng, kind, width));
         }
     }
@@ -43,17 +43,18 @@ pub fn fixed(rng: &mut Rng) -> Vec<Vec<u8>> {
     all
 }
 
-/// Sheets whose lines start at the ends of a wide row, and where so many pixels are left as a
-/// reader may store at a time, or one less or more. A body of 65,535 words fits no line, and from
-/// column 2 on the rest of it does.
+/// Sheets whose lines start at the ends of a wide row, just past it, and where so many pixels are
+/// left as a reader may store at a time, or one less or more. A body of 65,535 words fits no line,
+/// and from column 2 on the rest of it does.
 fn partway(rng: &mut Rng, kind: u16, width: usize) -> Vec<Vec<u8>> {
     let near = [0, 1, 2, 3, 7, 8, 9, 15, 16, 17];
-    let starts = near.into_iter().chain([width / 2]).chain(near.map(|n| width - n));
+    let past = [width + 1].into_iter().filter(|&offset| offset <= 65_535);
+    let starts = near.into_iter().chain([width / 2]).chain(near.map(|n| width - n)).chain(past);
     starts
         .map(|offset| {
             let header = some_header(rng, kind, 1, width, 2);
             let lines = [1, 2].map(|k| {
-                let row = some_row(rng, kind, width - offset);
+                let row = some_row(rng, kind, width.saturating_sub(offset));
                 Line::starting(k, offset, some_body(rng, kind, &row, true, true))
             });
             headed(&header, &lines)
