@@ -335,6 +335,23 @@ static void reading(uint32_t type, uint32_t ppl, uint32_t nol, uint32_t scn, int
     }
 }
 
+/* Lines that start in the middle: half of every row is cleared, and the other is read. */
+static void reading_halves(uint32_t type, int runs)
+{
+    char name[160];
+    snprintf(name, sizeof name, "read type %s%s, headers, from the middle of every line", type_name(type), runs_name(runs));
+    if (!wanted(name))
+        return;
+    sides_of(type, 10000, 2000, 1);
+    paint(given.picture, type, given.ppl, given.nol, runs);
+    make_file(NONE);
+    indent(given.file, given.ppl);
+    given.ppl *= 2;
+    lend(picture_bytes());
+    const struct job job = {read_raster, type <= 3 ? copy_file : store_pixels, NULL};
+    row(&job, name, 0);
+}
+
 static void writing(uint32_t type, uint32_t scn, int runs)
 {
     char name[160];
@@ -397,6 +414,8 @@ static void all_rows(void)
         reading(9, 16, 65535, scn, 2, NONE);
         reading(2, 16, 65535, scn, NOISE, NONE);
     }
+    reading_halves(2, NOISE);
+    reading_halves(9, 61);
     for (uint32_t scn = 0; scn <= 1; scn++) {
         writing(2, scn, NOISE);
         writing(3, scn, NOISE);

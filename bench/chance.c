@@ -23,6 +23,22 @@ static uint16_t picture[PIXELS];
 static unsigned long compared, unequal;
 static unsigned long results[64], marks[64]; /* how often each was met */
 
+/* Columns in which lines start, and how often each was met: by good lines, and the last two, which are
+ * past the row, by lines marked 5. */
+enum { STARTS = 6, PAST_ROW = 4 };
+static unsigned long starts[STARTS];
+
+static uint32_t column(int start, uint32_t ppl)
+{
+    const uint32_t all[STARTS] = {0, 1, ppl - 1, ppl, ppl + 1, 65535};
+    return all[start];
+}
+
+static unsigned mark_at(int start)
+{
+    return start < PAST_ROW ? 0 : 5;
+}
+
 static void clear(void)
 {
     memset(&mine, OLD, offsetof(struct left, big) + reach);
@@ -116,6 +132,31 @@ static void make_file(uint32_t type, uint32_t ppl, uint32_t nol, uint32_t scn)
     file_size = size[0] + 256u * size[1] + 65536u * size[2];
 }
 
+/* Makes the lines of such a file anew: each starts in one of those columns or anywhere in its row, and
+ * its body is for the pixels that are left, or now and then for a whole row. */
+static void start_partway(uint32_t type, uint32_t ppl, uint32_t nol)
+{
+    static uint8_t single[BYTES]; /* a file of one line, for its body */
+    size_t at = 1024;
+    for (uint32_t k = 0; k < nol; k++) {
+        const uint32_t offset = chance(4) ? column((int)chance(STARTS), ppl) % 65536 : chance(ppl + 1);
+        const uint32_t pixels = chance(8) == 0 ? ppl : offset < ppl ? ppl - offset : 0;
+        uint8_t size[4];
+        uint32_t words = type == 9; /* a run of 0, where there are no pixels */
+        put_word(single + 1032, 0);
+        if (pixels > 0 && PLAIN.write(type, pixels, 1, 0, 1, 0, NULL, 0, picture + (size_t)(k + 1) * ppl - pixels,
+                                      pixels, single, sizeof single, size, sizeof size) == 0)
+            words = (size[0] + 256u * size[1] + 65536u * size[2] - 1032) / 2;
+        put_word(file + at, 0x5900);
+        put_word(file + at + 2, words + 2);
+        put_word(file + at + 4, k + 1);
+        put_word(file + at + 6, offset);
+        memcpy(file + at + 8, single + 1032, 2 * words);
+        at += 8 + 2 * words;
+    }
+    file_size = at;
+}
+
 /* Cuts the file, or changes some bytes: in the header, in the first lines' headers or anywhere. */
 static void damage(void)
 {
@@ -132,6 +173,18 @@ static void damage(void)
     }
 }
 
+/* Counts the lines of a file with scanline headers that was read, by the columns in which they start. */
+static void count_starts(void)
+{
+    const uint32_t ppl = word(file + 184), nol = word(file + 188);
+    size_t at = 2 * (size_t)(word(file + 2) + 2);
+    for (uint32_t k = 0; k < nol && at + 8 <= file_size; k++) {
+        for (int i = 0; i < STARTS; i++)
+            starts[i] += word(file + at + 6) == column(i, ppl) && theirs.marks[k] == mark_at(i);
+        at += 4 + 2 * word(file + at + 2);
+    }
+}
+
 static void read_both(size_t pixels, size_t lines)
 {
     /* At odd addresses too. */
@@ -143,6 +196,8 @@ static void read_both(size_t pixels, size_t lines)
     compare("reading");
     for (size_t k = 0; k < lines && theirs.result <= 1; k++)
         marks[theirs.marks[k] % 64]++;
+    if (theirs.result <= 1 && file[195] == 1)
+        count_starts();
     clear();
     mine.result = OURS.header(file, file_size, mine.answer, head_size);
     theirs.result = PLAIN.header(file, file_size, theirs.answer, head_size);
@@ -171,10 +226,16 @@ static void turn_both(uint32_t ppl, uint32_t nol)
     compare("turning");
 }
 
-/* Counts what was not met, so that nothing passes that looked at too little: every mark, and every
- * result but 10, for which files are too small. */
+/* Counts what was not met, so that nothing passes that looked at too little: every mark, every column
+ * and every result but 10, for which files are too small. */
 static void count_missing(void)
 {
+    static const char *const NAMES[STARTS] = {"0", "1", "PPL - 1", "PPL", "PPL + 1", "65535"};
+    for (int i = 0; i < STARTS; i++)
+        if (starts[i] == 0) {
+            printf("bench: no line that starts at %s was marked %u\n", NAMES[i], mark_at(i));
+            unequal++;
+        }
     for (unsigned number = 0; number <= 31; number++)
         if (results[number] == 0 && (number <= 1 || number >= 11) && number != 30) {
             printf("bench: no call gave %u\n", number);
@@ -204,6 +265,8 @@ unsigned long compare_by_chance(unsigned long count, unsigned long *how_many)
                 file[768 + chance(2048)] = (uint8_t)chance(256);
         } else {
             make_file(type, ppl, nol, scn);
+            if (file[195] == 1 && chance(3) == 0)
+                start_partway(type, ppl, nol);
         }
         write_both(type, ppl, nol, scn);
         damage();

@@ -180,20 +180,21 @@ static inline void fill(uint8_t *restrict at, size_t count, uint16_t value, size
             memcpy(at + 2 * i, &value, 2);
 }
 
-/* A body as far as it may be read, the row that it fills, and what became of it. */
+/* A body as far as it may be read, what it fills of a row, up to the row's end, and what became of
+ * it. */
 struct line {
     const uint8_t *body;
     size_t words;
-    uint8_t *row;
-    size_t ppl;
-    int open; /* no scanline header says where it ends: it ends where the total is PPL */
+    uint8_t *to;
+    size_t pixels;
+    int open; /* no scanline header says where it ends: it ends where the row does */
     size_t used; /* words, of an open line that is good */
 };
 
 static uint32_t paint_runs(struct line *line)
 {
-    size_t left = line->ppl;
-    uint8_t *at = line->row;
+    size_t left = line->pixels;
+    uint8_t *at = line->to;
     for (size_t i = 0; i < line->words; i++) {
         const size_t run = get16(line->body + 2 * i);
         if (run > left)
@@ -211,8 +212,8 @@ static uint32_t paint_runs(struct line *line)
 
 static uint32_t paint_pairs(struct line *line)
 {
-    size_t left = line->ppl;
-    uint8_t *at = line->row;
+    size_t left = line->pixels;
+    uint8_t *at = line->to;
     for (size_t i = 0; i + 2 <= line->words; i += 2) {
         const uint8_t *pair = line->body + 2 * i;
         const size_t run = get16(pair + 2);
@@ -229,10 +230,35 @@ static uint32_t paint_pairs(struct line *line)
     return line->open ? 1 : left == 0 ? 0 : 8;
 }
 
-static void paint_bytes(uint8_t *restrict row, const uint8_t *restrict body, size_t ppl)
+static void paint_bytes(uint8_t *restrict to, const uint8_t *restrict body, size_t pixels)
 {
-    for (size_t i = 0; i < ppl; i++)
-        put16(row + 2 * i, body[i]);
+    for (size_t i = 0; i < pixels; i++)
+        put16(to + 2 * i, body[i]);
+}
+
+/* Reads a body whose words are counted, for so many pixels. Inlined, so that lines that start at 0,
+ * which nearly all do, cost no more than if there were no others. */
+static inline __attribute__((always_inline)) uint32_t read_body(uint32_t type, const uint8_t *body,
+                                                                size_t words, uint8_t *to,
+                                                                size_t pixels)
+{
+    struct line line = {body, words, to, pixels, 0, 0};
+    switch (type) {
+    case 2:
+        if (words != (pixels + 1) / 2)
+            return 6;
+        paint_bytes(to, body, pixels);
+        return 0;
+    case 3:
+        if (words != pixels)
+            return 6;
+        memcpy(to, body, 2 * pixels);
+        return 0;
+    case 9:
+        return words % 2 == 0 ? 6 : paint_runs(&line);
+    default:
+        return words % 2 != 0 ? 6 : paint_pairs(&line);
+    }
 }
 
 /* Reads line k, from 0, that starts at a byte; moves the start on, or says that the line is lost. */
@@ -255,25 +281,13 @@ static uint32_t read_headed(const uint8_t *file, size_t size, const struct heade
     *start += 4 + 2 * (size_t)follow;
     if (get16(head + 4) != k + 1)
         return 4;
-    if (get16(head + 6) != 0)
+    const uint32_t offset = get16(head + 6);
+    if (offset == 0)
+        return read_body(h->type, head + 8, follow - 2, row, h->ppl);
+    if (offset > h->ppl)
         return 5;
-    struct line line = {head + 8, follow - 2, row, h->ppl, 0, 0};
-    switch (h->type) {
-    case 2:
-        if (line.words != (line.ppl + 1) / 2)
-            return 6;
-        paint_bytes(row, line.body, line.ppl);
-        return 0;
-    case 3:
-        if (line.words != line.ppl)
-            return 6;
-        memcpy(row, line.body, 2 * line.ppl);
-        return 0;
-    case 9:
-        return line.words % 2 == 0 ? 6 : paint_runs(&line);
-    default:
-        return line.words % 2 != 0 ? 6 : paint_pairs(&line);
-    }
+    memset(row, 0, 2 * (size_t)offset);
+    return read_body(h->type, head + 8, follow - 2, row + 2 * (size_t)offset, h->ppl - offset);
 }
 
 static uint32_t read_open(const uint8_t *file, size_t size, const struct header *h, uint8_t *row,
@@ -286,11 +300,11 @@ static uint32_t read_open(const uint8_t *file, size_t size, const struct header 
     switch (h->type) {
     case 2:
     case 3:
-        used = h->type == 2 ? line.ppl : 2 * line.ppl;
+        used = h->type == 2 ? line.pixels : 2 * line.pixels;
         if (used > left)
             mark = 1;
         else if (h->type == 2)
-            paint_bytes(row, line.body, line.ppl);
+            paint_bytes(row, line.body, line.pixels);
         else
             memcpy(row, line.body, used);
         break;

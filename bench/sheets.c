@@ -10,6 +10,17 @@ uint32_t chance(uint32_t limit)
     return (uint32_t)((state >> 32) * limit >> 32);
 }
 
+uint32_t word(const uint8_t *at)
+{
+    return at[0] + 256u * at[1];
+}
+
+void put_word(uint8_t *at, uint32_t value)
+{
+    at[0] = (uint8_t)value;
+    at[1] = (uint8_t)(value >> 8);
+}
+
 /* A pixel that the type has, other than the one before. */
 static uint16_t other(uint32_t type, uint16_t before)
 {
@@ -47,19 +58,13 @@ void paint(uint16_t *picture, uint32_t type, size_t ppl, size_t nol, int runs)
         paint_row(picture + k * ppl, type, ppl, runs);
 }
 
-static uint32_t word(const uint8_t *at)
-{
-    return at[0] + 256u * at[1];
-}
-
 /* Takes a pixel off the first run of a body that has one; in type 10 runs stand in every second word. */
 static void shorten(uint8_t *body, size_t words, uint32_t type)
 {
     for (size_t i = type == 10 ? 1 : 0; i < words; i += type == 10 ? 2 : 1) {
         const uint32_t run = word(body + 2 * i);
         if (run > 0) {
-            body[2 * i] = (uint8_t)(run - 1);
-            body[2 * i + 1] = (uint8_t)((run - 1) >> 8);
+            put_word(body + 2 * i, run - 1);
             return;
         }
     }
@@ -83,6 +88,17 @@ void spoil(uint8_t *file, size_t size, enum damage damage)
         if (damage == LOST_IN_THE_MIDDLE && k == nol / 2)
             file[at + 1] = 0;
         at += 8 + 2 * words;
+    }
+}
+
+void indent(uint8_t *file, uint32_t columns)
+{
+    const uint32_t nol = word(file + 188);
+    put_word(file + 184, word(file + 184) + columns);
+    size_t at = 1024;
+    for (uint32_t k = 0; k < nol; k++) {
+        put_word(file + at + 6, columns);
+        at += 4 + 2 * word(file + at + 2);
     }
 }
 

@@ -8,6 +8,10 @@
 /* A number below `limit` by chance, the same in every run. */
 uint32_t chance(uint32_t limit);
 
+/* Words of a file, low byte first. */
+uint32_t word(const uint8_t *at);
+void put_word(uint8_t *at, uint32_t value);
+
 /* How many runs a line has: a number of them, or one of these. */
 enum runs { NOISE = -1, SHORT_RUNS = 0 /* of 1 to 4 pixels */ };
 
@@ -18,6 +22,10 @@ void paint(uint16_t *picture, uint32_t type, size_t ppl, size_t nol, int runs);
 enum damage { NONE, EACH_SHORT, EVERY_SECOND_SHORT, LOST_IN_THE_MIDDLE };
 
 void spoil(uint8_t *file, size_t size, enum damage damage);
+
+/* Lets all lines of a file with scanline headers start so many columns farther right, and makes the
+ * lines as much longer. */
+void indent(uint8_t *file, uint32_t columns);
 
 /* Makes a file of one pixel with an Environ-V table of 256 entries. */
 enum { ENVIRON_V_BYTES = 512 * 6 + 1 };

@@ -5,6 +5,7 @@ use crate::gen::put;
 use crate::gen::sheet::words;
 use crate::gen::turning::Turning;
 
+#[derive(Clone)]
 pub struct Edge {
     pub name: &'static str,
     pub file: Vec<u8>,
@@ -40,9 +41,16 @@ fn cut(mut file: Vec<u8>, len: usize) -> Vec<u8> {
     file
 }
 
+fn edge(name: &'static str, file: Vec<u8>, printed: &'static str) -> Edge {
+    Edge { name, file, printed }
+}
+
 pub fn edges() -> Vec<Edge> {
+    [usual_edges(), partway_edges()].concat()
+}
+
+fn usual_edges() -> Vec<Edge> {
     let good = with_words(9, 8, 1, WITH, &[0x5900, 5, 1, 0, 3, 2, 3]);
-    let edge = |name, file, printed| Edge { name, file, printed };
     vec![
         edge("1: empty file", Vec::new(), "refused 11\n"),
         edge(
@@ -205,6 +213,307 @@ pub fn edges() -> Vec<Edge> {
             "refused 23\n",
         ),
         edge("too many lines", changed(head(9, 1, 0, WITH), 188, &[0x01, 0x01]), "refused 24\n"),
+    ]
+}
+
+/// A sheet with headers, by the offset and the body's words of each line.
+fn starting(kind: u8, pixels: u8, lines: &[(u16, &[u16])]) -> Vec<u8> {
+    let mut file = head(kind, pixels, lines.len() as u8, WITH);
+    for (number, (offset, body)) in (1..).zip(lines) {
+        file.extend(words(&[0x5900, body.len() as u16 + 2, number, *offset]));
+        file.extend(words(body));
+    }
+    file
+}
+
+/// Lines that start partway.
+fn partway_edges() -> Vec<Edge> {
+    // The first line's number is two bytes at 1028.
+    let misnumbered = |file| changed(file, 1028, &[2]);
+    vec![
+        edge(
+            "bytes from column 3, and a spare one",
+            starting(2, 8, &[(3, &[0x0605, 0x0807, 0x6309])]),
+            "type 2 pixels 8 lines 1 answer 0 good 1 end 1038\n1 0: 0 0 0 5 6 7 8 9\n",
+        ),
+        edge(
+            "words from column 3",
+            starting(3, 8, &[(3, &[500, 0, 700, 800, 65_535])]),
+            "type 3 pixels 8 lines 1 answer 0 good 1 end 1042\n1 0: 0 0 0 500 0 700 800 65535\n",
+        ),
+        edge(
+            "runs from column 3",
+            starting(9, 8, &[(3, &[0, 2, 1, 2, 0])]),
+            "type 9 pixels 8 lines 1 answer 0 good 1 end 1042\n1 0: 0 0 0 1 1 0 1 1\n",
+        ),
+        edge(
+            "pairs from column 3",
+            starting(10, 8, &[(3, &[7, 2, 300, 3])]),
+            "type 10 pixels 8 lines 1 answer 0 good 1 end 1040\n1 0: 0 0 0 7 7 300 300 300\n",
+        ),
+        edge(
+            "bytes under offsets",
+            starting(
+                2,
+                8,
+                &[
+                    (3, &[0x0201, 0x0403, 0x0605, 0x0807]),
+                    (3, &[0x0201, 0x0403]),
+                    (4, &[0x0605, 0x0807]),
+                    (4, &[0x0605, 0x0807, 0x6309]),
+                    (1, &[0x0201, 0x0403, 0x0605, 0x6307]),
+                    (7, &[0x6305]),
+                ],
+            ),
+            "type 2 pixels 8 lines 6 answer 1 good 3 end 1104\n\
+             1 6: 0 0 0 0 0 0 0 0\n\
+             2 6: 0 0 0 0 0 0 0 0\n\
+             3 0: 0 0 0 0 5 6 7 8\n\
+             4 6: 0 0 0 0 0 0 0 0\n\
+             5 0: 0 1 2 3 4 5 6 7\n\
+             6 0: 0 0 0 0 0 0 0 5\n",
+        ),
+        edge(
+            "bytes of an odd line",
+            starting(
+                2,
+                3,
+                &[
+                    (1, &[0x0605]),
+                    (1, &[0x0605, 0x6307]),
+                    (2, &[0x6305]),
+                    (3, &[]),
+                    (3, &[0x6305]),
+                    (4, &[]),
+                ],
+            ),
+            "type 2 pixels 3 lines 6 answer 1 good 3 end 1082\n\
+             1 0: 0 5 6\n\
+             2 6: 0 0 0\n\
+             3 0: 0 0 5\n\
+             4 0: 0 0 0\n\
+             5 6: 0 0 0\n\
+             6 5: 0 0 0\n",
+        ),
+        edge(
+            "words under offsets",
+            starting(
+                3,
+                8,
+                &[
+                    (3, &[1, 2, 3, 4, 5, 6, 7, 8]),
+                    (3, &[1, 2, 3, 4]),
+                    (3, &[1, 2, 3, 4, 5, 6]),
+                    (7, &[500]),
+                ],
+            ),
+            "type 3 pixels 8 lines 4 answer 1 good 1 end 1094\n\
+             1 6: 0 0 0 0 0 0 0 0\n\
+             2 6: 0 0 0 0 0 0 0 0\n\
+             3 6: 0 0 0 0 0 0 0 0\n\
+             4 0: 0 0 0 0 0 0 0 500\n",
+        ),
+        edge(
+            "runs under offsets",
+            starting(
+                9,
+                8,
+                &[
+                    (3, &[3, 2, 3]),
+                    (3, &[3, 2, 1]),
+                    (3, &[3, 1, 0]),
+                    (3, &[3, 2]),
+                    (3, &[]),
+                    (3, &[1, 2, 2]),
+                    (7, &[0, 1, 0]),
+                ],
+            ),
+            "type 9 pixels 8 lines 7 answer 1 good 2 end 1114\n\
+             1 7: 0 0 0 0 0 0 0 0\n\
+             2 7: 0 0 0 0 0 0 0 0\n\
+             3 8: 0 0 0 0 0 0 0 0\n\
+             4 6: 0 0 0 0 0 0 0 0\n\
+             5 6: 0 0 0 0 0 0 0 0\n\
+             6 0: 0 0 0 0 1 1 0 0\n\
+             7 0: 0 0 0 0 0 0 0 1\n",
+        ),
+        edge(
+            "pairs under offsets",
+            starting(
+                10,
+                8,
+                &[
+                    (3, &[7, 8]),
+                    (3, &[7, 6]),
+                    (3, &[7, 4]),
+                    (3, &[7, 5, 9]),
+                    (3, &[]),
+                    (3, &[7, 0, 9, 5]),
+                    (7, &[300, 1]),
+                ],
+            ),
+            "type 10 pixels 8 lines 7 answer 1 good 2 end 1110\n\
+             1 7: 0 0 0 0 0 0 0 0\n\
+             2 7: 0 0 0 0 0 0 0 0\n\
+             3 8: 0 0 0 0 0 0 0 0\n\
+             4 6: 0 0 0 0 0 0 0 0\n\
+             5 8: 0 0 0 0 0 0 0 0\n\
+             6 0: 0 0 0 9 9 9 9 9\n\
+             7 0: 0 0 0 0 0 0 0 300\n",
+        ),
+        edge(
+            "bytes from column P",
+            starting(2, 8, &[(8, &[0x0605]), (8, &[0x0201, 0x0403, 0x0605, 0x0807]), (8, &[])]),
+            "type 2 pixels 8 lines 3 answer 1 good 1 end 1058\n\
+             1 6: 0 0 0 0 0 0 0 0\n\
+             2 6: 0 0 0 0 0 0 0 0\n\
+             3 0: 0 0 0 0 0 0 0 0\n",
+        ),
+        edge(
+            "words from column P",
+            starting(3, 8, &[(8, &[5]), (8, &[1, 2, 3, 4, 5, 6, 7, 8]), (8, &[])]),
+            "type 3 pixels 8 lines 3 answer 1 good 1 end 1066\n\
+             1 6: 0 0 0 0 0 0 0 0\n\
+             2 6: 0 0 0 0 0 0 0 0\n\
+             3 0: 0 0 0 0 0 0 0 0\n",
+        ),
+        edge(
+            "runs from column P",
+            starting(
+                9,
+                8,
+                &[(8, &[]), (8, &[1]), (8, &[0, 0]), (8, &[0, 1, 0]), (8, &[0, 0, 0]), (8, &[0])],
+            ),
+            "type 9 pixels 8 lines 6 answer 1 good 2 end 1092\n\
+             1 6: 0 0 0 0 0 0 0 0\n\
+             2 7: 0 0 0 0 0 0 0 0\n\
+             3 6: 0 0 0 0 0 0 0 0\n\
+             4 7: 0 0 0 0 0 0 0 0\n\
+             5 0: 0 0 0 0 0 0 0 0\n\
+             6 0: 0 0 0 0 0 0 0 0\n",
+        ),
+        edge(
+            "pairs from column P",
+            starting(
+                10,
+                8,
+                &[
+                    (8, &[7, 1]),
+                    (8, &[7]),
+                    (8, &[7, 0, 7]),
+                    (8, &[7, 0]),
+                    (8, &[7, 0, 9, 0]),
+                    (8, &[]),
+                ],
+            ),
+            "type 10 pixels 8 lines 6 answer 1 good 3 end 1096\n\
+             1 7: 0 0 0 0 0 0 0 0\n\
+             2 6: 0 0 0 0 0 0 0 0\n\
+             3 6: 0 0 0 0 0 0 0 0\n\
+             4 0: 0 0 0 0 0 0 0 0\n\
+             5 0: 0 0 0 0 0 0 0 0\n\
+             6 0: 0 0 0 0 0 0 0 0\n",
+        ),
+        edge(
+            "all lines from column P",
+            starting(9, 8, &[(8, &[0]), (8, &[0])]),
+            "type 9 pixels 8 lines 2 answer 0 good 2 end 1044\n\
+             1 0: 0 0 0 0 0 0 0 0\n\
+             2 0: 0 0 0 0 0 0 0 0\n",
+        ),
+        // Bodies for no pixels, for the whole line, and for 8 - 65,535 in 16 bits; the chain goes on.
+        edge(
+            "bytes past column P",
+            misnumbered(starting(
+                2,
+                8,
+                &[
+                    (9, &[]),
+                    (9, &[]),
+                    (9, &[0x0201, 0x0403, 0x0605, 0x0807]),
+                    (65_535, &[]),
+                    (65_535, &[0x0201, 0x0403, 0x0605, 0x0807, 0x6309]),
+                    (0, &[0x0201, 0x0403, 0x0605, 0x0807]),
+                ],
+            )),
+            "type 2 pixels 8 lines 6 answer 1 good 1 end 1098\n\
+             1 4: 0 0 0 0 0 0 0 0\n\
+             2 5: 0 0 0 0 0 0 0 0\n\
+             3 5: 0 0 0 0 0 0 0 0\n\
+             4 5: 0 0 0 0 0 0 0 0\n\
+             5 5: 0 0 0 0 0 0 0 0\n\
+             6 0: 1 2 3 4 5 6 7 8\n",
+        ),
+        edge(
+            "words past column P",
+            misnumbered(starting(
+                3,
+                8,
+                &[
+                    (9, &[]),
+                    (9, &[]),
+                    (9, &[1, 2, 3, 4, 5, 6, 7, 8]),
+                    (65_535, &[1, 2, 3, 4, 5, 6, 7, 8, 9]),
+                    (5, &[600, 700, 800]),
+                ],
+            )),
+            "type 3 pixels 8 lines 5 answer 1 good 1 end 1104\n\
+             1 4: 0 0 0 0 0 0 0 0\n\
+             2 5: 0 0 0 0 0 0 0 0\n\
+             3 5: 0 0 0 0 0 0 0 0\n\
+             4 5: 0 0 0 0 0 0 0 0\n\
+             5 0: 0 0 0 0 0 600 700 800\n",
+        ),
+        edge(
+            "runs past column P",
+            misnumbered(starting(
+                9,
+                8,
+                &[
+                    (9, &[0]),
+                    (9, &[0]),
+                    (9, &[3, 2, 3]),
+                    (9, &[3, 2]),
+                    (9, &[]),
+                    (65_535, &[0]),
+                    (65_535, &[9]),
+                    (0, &[3, 2, 3]),
+                ],
+            )),
+            "type 9 pixels 8 lines 8 answer 1 good 1 end 1112\n\
+             1 4: 0 0 0 0 0 0 0 0\n\
+             2 5: 0 0 0 0 0 0 0 0\n\
+             3 5: 0 0 0 0 0 0 0 0\n\
+             4 5: 0 0 0 0 0 0 0 0\n\
+             5 5: 0 0 0 0 0 0 0 0\n\
+             6 5: 0 0 0 0 0 0 0 0\n\
+             7 5: 0 0 0 0 0 0 0 0\n\
+             8 0: 0 0 0 1 1 0 0 0\n",
+        ),
+        edge(
+            "pairs past column P",
+            misnumbered(starting(
+                10,
+                8,
+                &[
+                    (9, &[7, 0]),
+                    (9, &[]),
+                    (9, &[7, 8]),
+                    (9, &[7]),
+                    (65_535, &[7, 9]),
+                    (256, &[7, 8]),
+                    (5, &[7, 3]),
+                ],
+            )),
+            "type 10 pixels 8 lines 7 answer 1 good 1 end 1102\n\
+             1 4: 0 0 0 0 0 0 0 0\n\
+             2 5: 0 0 0 0 0 0 0 0\n\
+             3 5: 0 0 0 0 0 0 0 0\n\
+             4 5: 0 0 0 0 0 0 0 0\n\
+             5 5: 0 0 0 0 0 0 0 0\n\
+             6 5: 0 0 0 0 0 0 0 0\n\
+             7 0: 0 0 0 0 0 7 7 7\n",
+        ),
     ]
 }
 

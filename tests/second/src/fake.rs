@@ -2,7 +2,8 @@
 //! They show that a mode passes a right program and catches a wrong one; nothing more, since
 //! they are the model.
 
-use crate::model::{long, probe};
+use crate::misread::{self, misread, Misreading};
+use crate::model::{long, probe, sheet};
 use std::io::{self, Read, Write};
 use std::time::Duration;
 
@@ -17,6 +18,8 @@ enum Change {
     Before(fn(&mut Vec<u8>)),
     /// To the output, after it.
     After(fn(&mut Vec<u8>)),
+    /// To the lines that the listing program reads.
+    Misread(Misreading),
     /// To a call of the turning program that is not refused, or is.
     Turned(fn(&mut Call)),
     Refused(fn(&mut Call)),
@@ -28,6 +31,10 @@ const fn before(name: &'static str, change: fn(&mut Vec<u8>)) -> Defect {
 
 const fn after(name: &'static str, change: fn(&mut Vec<u8>)) -> Defect {
     Defect { name, change: Change::After(change) }
+}
+
+const fn misreads(name: &'static str, change: Misreading) -> Defect {
+    Defect { name, change: Change::Misread(change) }
 }
 
 const fn turned(name: &'static str, change: fn(&mut Call)) -> Defect {
@@ -55,7 +62,7 @@ const HEADER: [Defect; 9] = [
     after("runs-on", |_| std::thread::sleep(Duration::MAX)),
 ];
 
-const LISTING: [Defect; 13] = [
+const LISTING: [Defect; 22] = [
     before("last-byte-unread", |file| file.truncate(file.len().max(1) - 1)),
     before("cuts-long-input", |file| file.truncate(probe::LISTING_LIMIT)),
     after("no-newline", |out| out.truncate(out.len() - 1)),
@@ -76,6 +83,15 @@ const LISTING: [Defect; 13] = [
     after("last-sheet-under-damage", |out| {
         rows(out, |row| row.mark > 0, |row| row.set(row.mark, &LAST_SHEET))
     }),
+    misreads("any-offset-refused", misread::any_offset_refused),
+    misreads("offset-p-refused", misread::offset_p_refused),
+    misreads("offset-in-16-bits", misread::offset_in_16_bits),
+    misreads("5-before-4", misread::five_before_four),
+    misreads("margin-unpainted", misread::margin_unpainted),
+    misreads("whole-row-wanted", misread::whole_row_wanted),
+    misreads("spare-byte-by-ppl", misread::spare_byte_by_ppl),
+    misreads("row-not-moved", misread::row_not_moved),
+    misreads("row-ends-below", misread::row_ends_below),
     after("fixed-picture", |out| {
         *out = b"type 9 pixels 1 lines 1 answer 0 good 1 end 1026\n1 0: 0\n".to_vec()
     }),
@@ -239,6 +255,19 @@ fn rows(output: &mut Vec<u8>, chosen: fn(&Row) -> bool, change: fn(&mut Row)) {
     *output = text.into_bytes();
 }
 
+/// The listing of a sheet whose lines are misread.
+fn misread_listing(input: &[u8], wrong: Misreading) -> Vec<u8> {
+    let read = || sheet::read(input, probe::LISTING_PIXELS, probe::LISTING_MARKS).ok();
+    match (input.len() <= probe::LISTING_LIMIT).then(read).flatten() {
+        None => probe::listing(input),
+        Some(mut found) => {
+            let held = [LENT[0]; probe::LISTING_PIXELS as usize];
+            misread(input, &mut found, &held, wrong);
+            probe::list(&found)
+        }
+    }
+}
+
 /// What the turning program was asked, and what it printed.
 struct Call {
     back: bool,
@@ -324,12 +353,15 @@ pub fn play(name: &str) -> bool {
     if let Some(Change::Before(change)) = change {
         change(&mut input);
     }
-    let mut output = program(&input);
+    let mut output = match change {
+        Some(Change::Misread(wrong)) => misread_listing(&input, *wrong),
+        _ => program(&input),
+    };
     match change {
         Some(Change::After(change)) => change(&mut output),
         Some(Change::Turned(change)) => calls(&input, &mut output, "turned ", *change),
         Some(Change::Refused(change)) => calls(&input, &mut output, "refused ", *change),
-        Some(Change::Before(_)) | None => {}
+        Some(Change::Before(_) | Change::Misread(_)) | None => {}
     }
     // Whoever closed the pipe wants no more.
     let _ = io::stdout().write_all(&output);

@@ -84,6 +84,12 @@ fn chain(file: &[u8], nol: usize) -> (Vec<usize>, usize) {
     (starts, at)
 }
 
+/// The offsets of the lines that the chain reaches and whose headers lie in the file.
+pub fn offsets(file: &[u8], nol: usize) -> Vec<u64> {
+    let starts = chain(file, nol).0.into_iter();
+    starts.filter(|at| at + 8 <= file.len()).map(|at| word(file, at + 6)).collect()
+}
+
 /// The header and body of a line, as far as they lie in the file.
 fn own_bytes(file: &[u8], at: usize) -> &[u8] {
     let rest = &file[at.min(file.len())..];

@@ -2,10 +2,11 @@
 //! the right ones pass and that each wrong one is found; nothing more, since they are the model.
 
 use super::Calls;
+use crate::misread::{self, misread, Misreading};
 use crate::model::c::{
     self, Turn, Write, COLOR_ANSWER, HEADER_ANSWER, RASTER_ANSWER, SHORT_ANSWER, WRITE_ANSWER,
 };
-use crate::model::{header, long, turn};
+use crate::model::{header, long, probe, sheet, turn};
 use std::slice::{from_raw_parts, from_raw_parts_mut};
 use std::sync::{Mutex, OnceLock};
 use std::time::Duration;
@@ -32,6 +33,10 @@ enum Change {
     Raster(Raster),
     Turn(Turning),
     Write(Writing),
+    /// To the lines that are read.
+    Misread(Misreading),
+    /// After a right reading of such files, to the byte behind the sheet where no more is lent.
+    Behind(fn(&[u8]) -> bool),
     /// After a right function, to one byte of a buffer of this name or of its guards, told by
     /// the length of the buffer.
     Touch(&'static str, fn(isize) -> Option<isize>),
@@ -44,8 +49,8 @@ const fn defect(name: &'static str, told: &'static str, change: Change) -> Defec
 pub const RIGHT: &str = "right";
 
 /// Those whose pairs must show it by themselves, and what is told.
-pub const OF_PAIRS: [(&str, &str); 9] = [
-    ("refused-row-unpainted", "and not blank"),
+pub const OF_PAIRS: [(&str, &str); 13] = [
+    ("refused-row-unpainted", "differs, but its body does not"),
     ("unpainted-after-lost", "differs, but its body does not"),
     ("last-sheet-under-damage", "and not blank"),
     ("pixels-high-byte-first", "not read by its own header and body"),
@@ -54,9 +59,13 @@ pub const OF_PAIRS: [(&str, &str); 9] = [
     ("every-sheet-good", "answer 0 with"),
     ("every-line-counted", "the good lines are not those marked 0"),
     ("odd-slices-refused", "the first call is refused with 23"),
+    ("any-offset-refused", "not read by its own header and body"),
+    ("margin-unpainted", "differs, but its body does not"),
+    ("whole-row-wanted", "not read by its own header and body"),
+    ("row-not-moved", "not read by its own header and body"),
 ];
 
-pub const DEFECTS: [Defect; 64] = [
+pub const DEFECTS: [Defect; 74] = [
     defect(RIGHT, "", Change::None),
     // 29 after another number, too early, too late.
     defect(
@@ -466,6 +475,49 @@ pub const DEFECTS: [Defect; 64] = [
             result
         }),
     ),
+    // Lines that start partway.
+    defect(
+        "any-offset-refused",
+        "ingr_raster: result 1, 0 wanted",
+        Change::Misread(misread::any_offset_refused),
+    ),
+    defect(
+        "offset-p-refused",
+        "ingr_raster: marks: byte ",
+        Change::Misread(misread::offset_p_refused),
+    ),
+    defect(
+        "offset-in-16-bits",
+        "ingr_raster: marks: byte ",
+        Change::Misread(misread::offset_in_16_bits),
+    ),
+    defect("5-before-4", "ingr_raster: marks: byte ", Change::Misread(misread::five_before_four)),
+    defect(
+        "margin-unpainted",
+        "ingr_raster: pixels: byte ",
+        Change::Misread(misread::margin_unpainted),
+    ),
+    defect(
+        "whole-row-wanted",
+        "ingr_raster: result 1, 0 wanted",
+        Change::Misread(misread::whole_row_wanted),
+    ),
+    defect(
+        "spare-byte-by-ppl",
+        "ingr_raster: result 1, 0 wanted",
+        Change::Misread(misread::spare_byte_by_ppl),
+    ),
+    defect("row-not-moved", "ingr_raster: pixels: byte ", Change::Misread(misread::row_not_moved)),
+    defect(
+        "row-ends-below",
+        "ingr_raster: pixels: byte ",
+        Change::Misread(misread::row_ends_below),
+    ),
+    defect(
+        "row-ends-behind-sheet",
+        "pixels: guard, 0 past its end,",
+        Change::Behind(misread::ends_partway),
+    ),
     // The first line of a second band of 65,535 pixels left out.
     defect(
         "band-forgets-a-line",
@@ -705,6 +757,24 @@ fn under_marks(
     result
 }
 
+/// Reads a sheet whose lines are misread.
+fn misread_raster(
+    file: &[u8],
+    pixels: &mut [u8],
+    marks: &mut [u8],
+    answer: &mut [u8],
+    wrong: Misreading,
+) -> u32 {
+    let held = probe::pixels_of(pixels);
+    match (c::raster(file, pixels, marks, answer), sheet::read(file, u64::MAX, u64::MAX)) {
+        (0 | 1, Ok(mut found)) => {
+            misread(file, &mut found, &held, wrong);
+            c::leave(&found, pixels, marks, answer)
+        }
+        (number, _) => number,
+    }
+}
+
 /// The defect that is played in this process.
 static PLAYED: OnceLock<&'static Defect> = OnceLock::new();
 
@@ -764,13 +834,19 @@ unsafe extern "C" fn raster(
     answer: *mut u8,
     len: usize,
 ) -> u32 {
-    let call = if let Change::Raster(call) = played() { *call } else { c::raster };
-    let result = call(
-        from_raw_parts(file, n),
-        from_raw_parts_mut(pixels, pixels_len),
-        from_raw_parts_mut(marks, marks_len),
-        from_raw_parts_mut(answer, len),
-    );
+    let given = from_raw_parts(file, n);
+    let rows = from_raw_parts_mut(pixels, pixels_len);
+    let (marked, numbers) = (from_raw_parts_mut(marks, marks_len), from_raw_parts_mut(answer, len));
+    let result = match played() {
+        Change::Raster(call) => call(given, rows, marked, numbers),
+        Change::Misread(wrong) => misread_raster(given, rows, marked, numbers, *wrong),
+        _ => c::raster(given, rows, marked, numbers),
+    };
+    if let (Change::Behind(chosen), 0 | 1) = (played(), result) {
+        if pixels_len == 2 * size_of_sheet(given) && chosen(given) {
+            *pixels.wrapping_add(pixels_len) ^= 0x40;
+        }
+    }
     touch("file", file, n);
     touch("pixels", pixels, pixels_len);
     touch("marks", marks, marks_len);

@@ -82,8 +82,9 @@ pub fn check(bench: &Bench, reached: &mut Vec<String>) -> Found {
 /// Bytes of the longest line there is.
 const LONGEST_LINE: usize = 4 + 2 * 65_535;
 
-/// Makes a sheet of the longest lines, one pixel each, refused for their numbers and offsets. The
-/// last one runs past the file, near its end.
+/// Makes a sheet of the longest lines, one pixel each, refused for their numbers, for offsets past
+/// the pixel and for their bodies under offsets that are right. The last one runs past the file,
+/// near its end.
 fn lay_long_lines(bytes: &mut [u8]) {
     let lines = (LONGEST_FILE as usize - 1_024) / LONGEST_LINE + 1;
     put(bytes, 184, &[1, 0, 0, 0, lines as u8, (lines >> 8) as u8]);
@@ -91,7 +92,8 @@ fn lay_long_lines(bytes: &mut [u8]) {
     for i in 0..lines {
         let number = (i + 1 + i % 2) as u16;
         let [low, high] = number.to_le_bytes();
-        put(bytes, 1_024 + i * LONGEST_LINE, &[0, 0x59, 0xFF, 0xFF, low, high, 1, 0]);
+        let offset = 1 + u8::from(i % 16 < 14);
+        put(bytes, 1_024 + i * LONGEST_LINE, &[0, 0x59, 0xFF, 0xFF, low, high, offset, 0]);
     }
 }
 

@@ -3,8 +3,8 @@
 
 use super::picture::{dress, Picture};
 use super::sheet::{
-    damage, sheet, some_bare, some_body, some_header, some_lines, some_row, Harm, Line, FLAWS,
-    TYPES,
+    damage, headed, sheet, some_bare, some_body, some_header, some_lines, some_margin, some_row,
+    words, Harm, Line, Margin, FLAWS, TYPES,
 };
 use super::sheets::{change, cut_in_raster};
 use super::turning::{some_spare, Turning};
@@ -35,8 +35,41 @@ pub fn fixed(rng: &mut Rng) -> Vec<Vec<u8>> {
                 all.push(some_sheet(rng, kind, scn, width, height));
             }
         }
+        for width in [4_097, 65_534, 65_535] {
+            all.extend(partway(rng, kind, width));
+        }
     }
+    all.extend(longest_bodies(rng));
     all
+}
+
+/// Sheets whose lines start at the ends of a wide row, just past it, and where so many pixels are
+/// left as a reader may store at a time, or one less or more. A body of 65,535 words fits no line,
+/// and from column 2 on the rest of it does.
+fn partway(rng: &mut Rng, kind: u16, width: usize) -> Vec<Vec<u8>> {
+    let near = [0, 1, 2, 3, 7, 8, 9, 15, 16, 17];
+    let past = [width + 1].into_iter().filter(|&offset| offset <= 65_535);
+    let starts = near.into_iter().chain([width / 2]).chain(near.map(|n| width - n)).chain(past);
+    starts
+        .map(|offset| {
+            let header = some_header(rng, kind, 1, width, 2);
+            let lines = [1, 2].map(|k| {
+                let row = some_row(rng, kind, width.saturating_sub(offset));
+                Line::starting(k, offset, some_body(rng, kind, &row, true, true))
+            });
+            headed(&header, &lines)
+        })
+        .collect()
+}
+
+/// The longest bodies of runs and of pairs there are, of no pixels: all of the row is before them.
+fn longest_bodies(rng: &mut Rng) -> Vec<Vec<u8>> {
+    let lines = [(9, 65_533), (10, 65_532)].map(|(kind, count)| (kind, words(&vec![0; count])));
+    let sheets = lines.map(|(kind, body)| {
+        let width = rng.range(1, 100);
+        headed(&some_header(rng, kind, 1, width, 1), &[Line::starting(1, width, body)])
+    });
+    sheets.to_vec()
 }
 
 /// A wide or a tall sheet by chance, with headers or without.
@@ -73,11 +106,13 @@ pub fn some_banded(rng: &mut Rng, scn: u8) -> Vec<u8> {
     let height = (band * rng.range(1, 3) + rng.below(4)).saturating_sub(1).clamp(1, most);
     let header = some_header(rng, kind, scn, width, height);
     let loose = rng.one_in(2);
+    let margin = if scn == 1 { some_margin(rng, width) } else { Margin::None };
     // The rows come again after a few, so that this takes less time than reading.
-    let several: Vec<Vec<u8>> = (0..rng.range(1, 7))
+    let several: Vec<(usize, Vec<u8>)> = (0..rng.range(1, 7))
         .map(|_| {
-            let row = some_row(rng, kind, width);
-            some_body(rng, kind, &row, loose, scn == 1)
+            let offset = margin.offset(rng, width);
+            let row = some_row(rng, kind, width - offset);
+            (offset, some_body(rng, kind, &row, loose, scn == 1))
         })
         .collect();
     let harmed = rng.below(4);
@@ -85,10 +120,10 @@ pub fn some_banded(rng: &mut Rng, scn: u8) -> Vec<u8> {
     let mut cut = None;
     for k in 1..=height {
         let at_edge = (k + 2) % band <= 3;
-        let body = several[(k * k + k / band) % several.len()].clone();
+        let (offset, body) = several[(k * k + k / band) % several.len()].clone();
         let start = raster.len();
         if scn == 1 {
-            let mut line = Line::new(k, body);
+            let mut line = Line::starting(k, offset, body);
             if harmed > 0 && at_edge && rng.one_in(4) {
                 // What loses the chain less often than all else.
                 let flaw = if rng.one_in(4) { rng.pick(&FLAWS) } else { rng.pick(&FLAWS[3..]) };

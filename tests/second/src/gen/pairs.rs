@@ -6,6 +6,7 @@ use super::sheet::{some_body, some_row, some_size, words, Harm, TYPES};
 use super::sheets::some_headed;
 use crate::model::probe::LISTING_LIMIT;
 use crate::model::sheet::{self, Line, Sheet};
+use crate::model::word;
 use crate::rng::Rng;
 use std::ops::Range;
 
@@ -15,7 +16,13 @@ const LOST: &str = "chain lost";
 const CUT: &str = "file cut";
 pub const FAMILIES: [&str; 4] = [GOOD, DAMAGED, LOST, CUT];
 /// What the changes of many pairs must have done.
-pub const EFFECTS: [&str; 3] = ["cut body changed", "mark changed", "mark kept, row changed"];
+pub const EFFECTS: [&str; 5] = [
+    "cut body changed",
+    "mark changed",
+    "mark kept, row changed",
+    "mark changed, partway",
+    "mark kept, row changed, partway",
+];
 
 pub struct Pair {
     pub family: &'static str,
@@ -38,6 +45,10 @@ impl Pair {
                 (false, true, true) => "mark and row kept",
             };
             all.push(what.to_string());
+            let body = old.body.as_ref();
+            if body.is_some_and(|body| offset_before(&self.first, body) > 0) {
+                all.push(format!("{what}, partway"));
+            }
             if old.mark == 1 {
                 all.push("cut body changed".to_string());
             }
@@ -46,6 +57,11 @@ impl Pair {
         all.dedup();
         all
     }
+}
+
+/// The offset is the last word of a line's header. No change reaches it.
+fn offset_before(file: &[u8], body: &Range<usize>) -> u64 {
+    word(file, body.start - 2)
 }
 
 fn lines_of(file: &[u8]) -> Vec<Line> {
@@ -101,7 +117,9 @@ pub fn changed(rng: &mut Rng, family: &'static str, first: Vec<u8>) -> Option<Pa
         // The last body is the one that may be cut.
         let body =
             if rng.one_in(3) { bodies[bodies.len() - 1].clone() } else { any_of(rng, &bodies) };
-        change(rng, &mut second[body], header.kind as u16, header.ppl as usize);
+        let offset = offset_before(&first, &body).min(header.ppl);
+        let rest = (header.ppl - offset) as usize;
+        change(rng, &mut second[body], header.kind as u16, [offset as usize, rest]);
     }
     let same: Vec<bool> = lines
         .iter()
@@ -114,8 +132,8 @@ fn any_of(rng: &mut Rng, bodies: &[Range<usize>]) -> Range<usize> {
     bodies[rng.below(bodies.len())].clone()
 }
 
-/// Changes bytes of one body, and no others.
-fn change(rng: &mut Rng, body: &mut [u8], kind: u16, ppl: usize) {
+/// Changes bytes of one body, and no others. The line has so many pixels before it and in it.
+fn change(rng: &mut Rng, body: &mut [u8], kind: u16, [offset, rest]: [usize; 2]) {
     let at = rng.below(body.len());
     match rng.below(7) {
         0 => body[at] ^= 1 << rng.below(8),
@@ -132,10 +150,14 @@ fn change(rng: &mut Rng, body: &mut [u8], kind: u16, ppl: usize) {
             }
         }
         // What looks like a line's header, for a reader that looks for one.
-        5 => put(body, at & !1, &words(&[0x5900, 3, rng.range(1, 12) as u16, 0, ppl as u16])),
+        5 => {
+            let number = rng.range(1, 12) as u16;
+            put(body, at & !1, &words(&[0x5900, 3, number, offset as u16, rest as u16]));
+        }
         _ => {
-            // Another row, as far as it fits.
-            let row = some_row(rng, kind, ppl);
+            // Another row, as far as it fits: what is left of it, or the whole.
+            let pixels = if rng.one_in(4) { offset + rest } else { rest };
+            let row = some_row(rng, kind, pixels);
             let other = some_body(rng, kind, &row, false, true);
             put(body, 0, &other);
         }

@@ -19,7 +19,12 @@ pub struct Line {
 impl Line {
     /// A right line number `k`; the body has an even number of bytes.
     pub fn new(k: usize, body: Vec<u8>) -> Line {
-        Line { id: 0x5900, follow: None, number: k as u16, offset: 0, body }
+        Line::starting(k, 0, body)
+    }
+
+    /// The same, with its first pixel in this column.
+    pub fn starting(k: usize, offset: usize, body: Vec<u8>) -> Line {
+        Line { id: 0x5900, follow: None, number: k as u16, offset: offset as u16, body }
     }
 
     pub fn bytes(&self) -> Vec<u8> {
@@ -175,7 +180,62 @@ fn runs_of_levels(rng: &mut Rng, row: &[u16], loose: bool, headers: bool) -> Vec
     runs
 }
 
-/// What may be wrong with a line that has a header, in the order it is looked for.
+/// Where the lines of a sheet start.
+#[derive(Clone, Copy)]
+pub enum Margin {
+    /// At their rows' start, as is usual.
+    None,
+    /// All in this column.
+    Same(usize),
+    /// Each where it likes.
+    Ragged,
+}
+
+pub fn some_margin(rng: &mut Rng, ppl: usize) -> Margin {
+    match rng.below(4) {
+        0 | 1 => Margin::None,
+        2 => Margin::Same(some_offset(rng, ppl)),
+        _ => Margin::Ragged,
+    }
+}
+
+impl Margin {
+    /// The column of the next line's first pixel.
+    pub fn offset(self, rng: &mut Rng, ppl: usize) -> usize {
+        match self {
+            Margin::None => 0,
+            Margin::Same(offset) => offset,
+            Margin::Ragged if rng.one_in(3) => 0,
+            Margin::Ragged => some_offset(rng, ppl),
+        }
+    }
+}
+
+/// A column in which a line may start, PPL too: at both ends of the row, near its end, or
+/// anywhere.
+pub fn some_offset(rng: &mut Rng, ppl: usize) -> usize {
+    match rng.below(6) {
+        0 => 1,
+        1 => ppl - 1,
+        2 => ppl,
+        // Where a reader that stores several pixels at a time would leave the row.
+        3 => ppl.saturating_sub(rng.range(2, 17)),
+        _ => rng.range(0, ppl),
+    }
+}
+
+/// An offset that is refused; the widest line has none.
+fn some_offset_above(rng: &mut Rng, ppl: usize) -> Option<u16> {
+    let least = ppl + 1;
+    if least > 65_535 {
+        return None;
+    }
+    let any = rng.range(least, 65_535);
+    Some(rng.pick(&[least, 256, 0x8000, 65_535, any]).max(least) as u16)
+}
+
+/// What may be wrong with a line that has a header, in the order it is looked for; last, what is
+/// wrong by its offset alone.
 #[derive(Clone, Copy, PartialEq)]
 pub enum Flaw {
     Identifier,
@@ -186,9 +246,10 @@ pub enum Flaw {
     Count,
     Above,
     Below,
+    Misfit,
 }
 
-pub const FLAWS: [Flaw; 8] = [
+pub const FLAWS: [Flaw; 9] = [
     Flaw::Identifier,
     Flaw::FollowBelowTwo,
     Flaw::FollowPastFile,
@@ -197,6 +258,7 @@ pub const FLAWS: [Flaw; 8] = [
     Flaw::Count,
     Flaw::Above,
     Flaw::Below,
+    Flaw::Misfit,
 ];
 
 pub fn damage(rng: &mut Rng, line: &mut Line, kind: u16, ppl: usize, flaw: Flaw) {
@@ -223,9 +285,10 @@ pub fn damage(rng: &mut Rng, line: &mut Line, kind: u16, ppl: usize, flaw: Flaw)
                 line.number = right ^ 0x8000;
             }
         }
-        Flaw::Offset => {
-            line.offset = rng.pick(&[1, 2, 255, 256, 0x8000, 65_535, ppl as u16]).max(1)
-        }
+        Flaw::Offset => match some_offset_above(rng, ppl) {
+            Some(offset) => line.offset = offset,
+            None => misfit(rng, line, kind, ppl),
+        },
         Flaw::Count => wrong_count(rng, &mut line.body, kind),
         Flaw::Above | Flaw::Below if kind <= 3 => wrong_count(rng, &mut line.body, kind),
         Flaw::Above => {
@@ -238,14 +301,34 @@ pub fn damage(rng: &mut Rng, line: &mut Line, kind: u16, ppl: usize, flaw: Flaw)
             raise(rng, &mut line.body, kind, by);
         }
         Flaw::Below => lower(rng, &mut line.body, kind),
+        Flaw::Misfit => misfit(rng, line, kind, ppl),
     }
+}
+
+/// Makes the line start partway, or lets it, and gives it a body for a whole row, or one of bytes
+/// that has a spare one, or none, by PPL.
+fn misfit(rng: &mut Rng, line: &mut Line, kind: u16, ppl: usize) {
+    if line.offset == 0 {
+        line.offset = rng.range(1, ppl) as u16;
+    }
+    let rest = ppl.saturating_sub(line.offset.into());
+    if kind == 2 && rest % 2 != ppl % 2 && rng.one_in(2) {
+        line.body = rng.bytes(2 * (rest / 2 + ppl % 2));
+        return;
+    }
+    if kind == 2 && rest.div_ceil(2) == ppl.div_ceil(2) {
+        // The last byte for a whole row would be the spare one.
+        line.offset = 2;
+    }
+    let row = some_row(rng, kind, ppl);
+    line.body = some_body(rng, kind, &row, true, true);
 }
 
 fn wrong_count(rng: &mut Rng, body: &mut Vec<u8>, kind: u16) {
     match (kind, rng.below(4)) {
         (2 | 3, 0) => body.extend([0, 0, 0, 0]),
         (_, 1) if body.len() >= 2 => body.truncate(body.len() - 2),
-        (2 | 3, 2) => body.clear(),
+        (2 | 3, 2) if !body.is_empty() => body.clear(),
         // The total as it was.
         (_, 3) => body.extend([0, 0]),
         _ => body.extend(rng.bytes(2)),
@@ -312,11 +395,13 @@ pub fn some_lines(rng: &mut Rng, kind: u16, ppl: usize, nol: usize, harm: Harm) 
     let loose = rng.one_in(2);
     let rate = rng.pick(&[1, 2, 3, 8]);
     let lost = rng.range(1, nol);
+    let margin = some_margin(rng, ppl);
     let mut lines = Vec::new();
     for k in 1..=nol {
-        let row = some_row(rng, kind, ppl);
+        let offset = margin.offset(rng, ppl);
+        let row = some_row(rng, kind, ppl - offset);
         let body = some_body(rng, kind, &row, loose, true);
-        let mut line = Line::new(k, body);
+        let mut line = Line::starting(k, offset, body);
         if rng.one_in(3) {
             // The low byte is free.
             line.id |= u16::from(rng.byte());

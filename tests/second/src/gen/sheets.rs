@@ -2,16 +2,18 @@
 
 use super::header::{spoiled, words_to_follow, Draft};
 use super::sheet::{
-    damage, headed, sheet, some_bare, some_body, some_header, some_lines, some_row, some_size,
-    words, Flaw, Harm, Line, FLAWS, TYPES,
+    damage, headed, sheet, some_bare, some_body, some_header, some_lines, some_margin, some_row,
+    some_size, words, Flaw, Harm, Line, FLAWS, TYPES,
 };
 use crate::model::probe::{LISTING_LIMIT, LISTING_MARKS, LISTING_PIXELS};
 use crate::rng::Rng;
+use std::collections::BTreeSet;
 
 /// The families of the inputs that are always run, and of those by chance.
-pub const FIXED: [&str; 9] = [
+pub const FIXED: [&str; 10] = [
     "limit of the input",
     "flaws of a line, all together",
+    "lines that start partway",
     "every short body",
     "every short raster without headers",
     "cut at every byte",
@@ -46,6 +48,7 @@ pub fn fixed(seed: u64) -> Vec<Input> {
     };
     add("limit of the input", sizes(&mut rng));
     add("flaws of a line, all together", flaws(&mut rng));
+    add("lines that start partway", partway(&mut rng));
     add("every short body", short_bodies());
     add("every short raster without headers", short_rasters());
     add("cut at every byte", cuts(&mut rng));
@@ -63,14 +66,13 @@ pub fn fixed(seed: u64) -> Vec<Input> {
 fn flaws(rng: &mut Rng) -> Vec<Vec<u8>> {
     let mut all = Vec::new();
     for kind in TYPES {
-        for set in 0..256usize {
+        for set in 0..1usize << FLAWS.len() {
             let chosen: Vec<Flaw> =
-                (0..8).filter(|bit| set >> bit & 1 == 1).map(|bit| FLAWS[bit]).collect();
+                (0..FLAWS.len()).filter(|bit| set >> bit & 1 == 1).map(|bit| FLAWS[bit]).collect();
             let has = |flaw| chosen.contains(&flaw);
-            // One word holds W, and one total is not both above and below.
-            if has(Flaw::FollowBelowTwo) && has(Flaw::FollowPastFile)
-                || has(Flaw::Above) && has(Flaw::Below)
-            {
+            let totals = [Flaw::Above, Flaw::Below, Flaw::Misfit].into_iter().filter(|&f| has(f));
+            // One word holds W, and a body has one total.
+            if has(Flaw::FollowBelowTwo) && has(Flaw::FollowPastFile) || totals.count() > 1 {
                 continue;
             }
             if kind <= 3 && (has(Flaw::Above) || has(Flaw::Below)) {
@@ -98,6 +100,62 @@ fn flaws(rng: &mut Rng) -> Vec<Vec<u8>> {
     all
 }
 
+/// Lines that start in the first columns of their rows, in the last ones and past them, with
+/// bodies that fit and bodies that do not: the first line and the last of three, where the pixels
+/// lent begin and end.
+fn partway(rng: &mut Rng) -> Vec<Vec<u8>> {
+    let mut all = Vec::new();
+    for kind in TYPES {
+        for ppl in [1, 2, 3, 8, 9, 17] {
+            let header = Draft { scn: 1, ppl: ppl as u32, nol: 3, ..Draft::plain(kind, 2) };
+            for offset in BTreeSet::from([0, 1, ppl / 2, ppl - 1, ppl, ppl + 1, 65_535]) {
+                for (pixels, flaw) in fits_and_misfits(kind, ppl, offset) {
+                    let [first, last] = [1, 3].map(|k| {
+                        let body = body_of(rng, kind, pixels);
+                        let mut line = Line::starting(k, offset, body);
+                        if let Some(flaw) = flaw {
+                            damage(rng, &mut line, kind, ppl, flaw);
+                        }
+                        line
+                    });
+                    let middle = Line::new(2, body_of(rng, kind, ppl));
+                    all.push(headed(&header, &[first, middle, last]));
+                }
+            }
+        }
+    }
+    all
+}
+
+/// The pixels that bodies are made for under an offset, and what is wrong with them besides.
+fn fits_and_misfits(kind: u16, ppl: usize, offset: usize) -> Vec<(usize, Option<Flaw>)> {
+    let (fit, others) = match ppl.checked_sub(offset) {
+        Some(rest) => (rest, [rest.saturating_sub(1), rest + 1, ppl]),
+        // In 16 bits the row would have so many left.
+        None => (0, [1, ppl, 65_536 + ppl - offset]),
+    };
+    let lengths: BTreeSet<usize> = others.into_iter().chain([fit]).collect();
+    let short = |pixels: &usize| kind > 3 || *pixels <= 100;
+    let flaws = match kind {
+        2 | 3 => &[Flaw::Number, Flaw::Count][..],
+        _ => &[Flaw::Number, Flaw::Count, Flaw::Above, Flaw::Below],
+    };
+    let lengths = lengths.into_iter().filter(short).map(|pixels| (pixels, None));
+    lengths.chain(flaws.iter().map(|&flaw| (fit, Some(flaw)))).collect()
+}
+
+/// A body of so many pixels, neither end of which is blank, so that a row in the wrong place is
+/// seen.
+fn body_of(rng: &mut Rng, kind: u16, pixels: usize) -> Vec<u8> {
+    let mut row = if pixels <= 100 { some_row(rng, kind, pixels) } else { vec![1; pixels] };
+    for end in [0, pixels.max(1) - 1] {
+        if let Some(pixel) = row.get_mut(end) {
+            *pixel = 1;
+        }
+    }
+    some_body(rng, kind, &row, true, true)
+}
+
 /// Every list of up to `most` of the words 0 to 3.
 fn lists(most: usize) -> Vec<Vec<u16>> {
     let mut all: Vec<Vec<u16>> = vec![Vec::new()];
@@ -115,21 +173,22 @@ fn lists(most: usize) -> Vec<Vec<u16>> {
     all
 }
 
-/// Every body of a few small words, as lines of a few sheets: with headers each line stands
-/// for itself.
+/// Every body of a few small words under every offset up to PPL and one above, as lines of a few
+/// sheets: with headers each line stands for itself.
 fn short_bodies() -> Vec<Vec<u8>> {
     let mut all = Vec::new();
+    let starts = |ppl: usize| (0..=ppl + 1).map(move |offset| (ppl, offset));
     for kind in TYPES {
-        for ppl in [1, 2, 3] {
+        for (ppl, offset) in (1..=3).flat_map(starts) {
             for bodies in lists(5).chunks(200) {
                 let lines: Vec<Line> = bodies
                     .iter()
                     .enumerate()
-                    .map(|(i, body)| Line::new(i + 1, words(body)))
+                    .map(|(i, body)| Line::starting(i + 1, offset, words(body)))
                     .collect();
                 let mut header = Draft::plain(kind, 2);
                 header.scn = 1;
-                header.ppl = ppl;
+                header.ppl = ppl as u32;
                 header.nol = lines.len() as u32;
                 all.push(headed(&header, &lines));
             }
@@ -152,7 +211,8 @@ fn short_rasters() -> Vec<Vec<u8>> {
     all
 }
 
-/// A small sheet of each kind, cut at every byte of its raster data.
+/// A small sheet of each kind, cut at every byte of its raster data. With headers each line
+/// starts a column farther right than the one above.
 fn cuts(rng: &mut Rng) -> Vec<Vec<u8>> {
     let mut all = Vec::new();
     for kind in TYPES {
@@ -160,13 +220,12 @@ fn cuts(rng: &mut Rng) -> Vec<Vec<u8>> {
             let (ppl, nol) = (if kind == 2 { 5 } else { 4 }, 3);
             let header = Draft { scn, ppl, nol, ..Draft::plain(kind, 2) };
             let row: Vec<u16> = vec![0, 1, 1, 0, 1][..ppl as usize].to_vec();
-            let raster: Vec<u8> = (1..=nol as usize)
-                .flat_map(|k| {
-                    let body = some_body(rng, kind, &row, false, scn == 1);
-                    if scn == 1 {
-                        Line::new(k, body).bytes()
-                    } else {
-                        body
+            let raster: Vec<u8> = (0..nol as usize)
+                .flat_map(|offset| match scn {
+                    0 => some_body(rng, kind, &row, false, false),
+                    _ => {
+                        let body = some_body(rng, kind, &row[offset..], false, true);
+                        Line::starting(offset + 1, offset, body).bytes()
                     }
                 })
                 .collect();
@@ -204,10 +263,13 @@ fn bits() -> Vec<Vec<u8>> {
         (9, words(&[1, 2, 1])),
         (10, words(&[300, 1, 7, 3])),
     ] {
-        for scn in [0, 1] {
-            let header = Draft { scn, ppl: 4, nol: 3, ..Draft::plain(kind, 2) };
+        for (scn, offset) in [(0, 0), (1, 0), (1, 2)] {
+            let header = Draft { scn, ppl: 4 + offset as u32, nol: 3, ..Draft::plain(kind, 2) };
             let lines: Vec<Vec<u8>> = (1..=3)
-                .map(|k| if scn == 1 { Line::new(k, body.clone()).bytes() } else { body.clone() })
+                .map(|k| match scn {
+                    0 => body.clone(),
+                    _ => Line::starting(k, offset, body.clone()).bytes(),
+                })
                 .collect();
             for bit in 0..8 * lines[1].len() {
                 let mut raster = lines.concat();
@@ -448,10 +510,12 @@ fn noise(rng: &mut Rng, kind: u16, ppl: usize, nol: usize) -> Vec<u8> {
     let mut raster = Vec::new();
     if scn == 1 {
         // Lines whose bodies are chance.
+        let margin = some_margin(rng, ppl);
         let mut rest = &list[..];
         for k in 1..=nol {
             let taken = rng.below(8).min(rest.len());
-            raster.extend(Line::new(k, words(&rest[..taken])).bytes());
+            let offset = margin.offset(rng, ppl);
+            raster.extend(Line::starting(k, offset, words(&rest[..taken])).bytes());
             rest = &rest[taken..];
         }
     } else {

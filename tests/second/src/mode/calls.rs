@@ -1,6 +1,7 @@
 //! Mode `calls`: the C functions, called in this process. Every case is one call, or a pair or a
 //! round trip of them, compared whole.
 
+use super::starts;
 use crate::calls::call::{numbers, Bench, Done, Lend, Read};
 use crate::calls::{demand_3, vast, Calls};
 use crate::edges::{Edge, TurnedEdge, WrittenEdge};
@@ -97,6 +98,7 @@ fn needed(extent: Extent, plan: &Plan) -> Needed {
     reached.extend([1, 2].map(|ctv| format!("color by table {ctv}")));
     reached.extend((0..=9).map(|mark| format!("mark {mark} with headers")));
     reached.extend([0, 1, 7, 9].map(|mark| format!("mark {mark} without")));
+    reached.extend(starts::all());
     for kind in TYPES {
         reached.extend((0..=1).map(|scn| format!("written type {kind} scn {scn}")));
     }
@@ -173,12 +175,16 @@ fn reached_by(read: &Read, file: &[u8], reached: &mut Vec<String>) {
     if read.result > 1 {
         reached.push(format!("raster refused {}", read.result));
     } else {
-        let (kind, scn) = (word(file, 4), file[195]);
+        let (kind, scn, nol) = (word(file, 4), file[195], long(file, 188) as usize);
         reached.push(format!("answer {}", read.result));
         reached.push(format!("read type {kind} scn {scn}"));
         let mut seen = [false; 256];
-        let marks = read.marks.lent().iter().take(long(file, 188) as usize);
-        marks.for_each(|&mark| seen[usize::from(mark)] = true);
+        let marks = read.marks.lent().iter().copied().take(nol);
+        marks.clone().for_each(|mark| seen[usize::from(mark)] = true);
+        if scn == 1 {
+            let lines = demand_3::offsets(file, nol).into_iter().zip(marks);
+            reached.extend(starts::reached(kind, long(file, 184), lines));
+        }
         let kind = if scn == 1 { "with headers" } else { "without" };
         let marks = (0..256).filter(|&mark| seen[mark]);
         reached.extend(marks.map(|mark| format!("mark {mark} {kind}")));

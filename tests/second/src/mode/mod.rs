@@ -5,5 +5,6 @@ pub mod header;
 pub mod pairs;
 pub mod selftest;
 pub mod sheets;
+pub mod starts;
 pub mod turn;
 pub mod write;

@@ -17,7 +17,7 @@ use std::thread;
 const SHORT_PATIENCE: &str = "300";
 
 /// Calls that the right functions must pass; some three quarters of them are always made.
-const CALLS: &str = "20000";
+const CALLS: &str = "22000";
 
 const RUNS_ON: &str = "runs on and was stopped";
 
@@ -63,6 +63,10 @@ pub fn run() -> io::Result<ExitCode> {
 const MODES: [&str; 5] = ["header", "sheets", "pairs", "write", "turn"];
 /// Those that read sheets of the other program.
 const WITH_PEERS: [&str; 3] = ["header", "sheets", "write"];
+
+/// What no pair shows: none is longer than the listing program takes, and hardly any has a body
+/// for as many pixels as an offset that is too far leaves in 16 bits.
+const NOT_IN_PAIRS: [&str; 2] = ["cuts-long-input", "offset-in-16-bits"];
 
 /// The modes that try a stand-in.
 fn modes_of(program: &str) -> impl Iterator<Item = &'static str> + '_ {
@@ -151,9 +155,8 @@ impl Bench {
             for defect in defects {
                 let wrong = format!("{right}-{defect}");
                 symlink(&self.exe, self.dir.join(&wrong))?;
-                // No sheet of a pair is longer than the listing program takes.
                 let modes = modes_of(program)
-                    .filter(|mode| (*mode, defect) != ("pairs", "cuts-long-input"));
+                    .filter(|mode| *mode != "pairs" || !NOT_IN_PAIRS.contains(&defect));
                 trials.extend(modes.map(|mode| {
                     let hangs = defect == "runs-on";
                     let wanted = if hangs { tells(&[RUNS_ON]) } else { Wanted::Differs };

@@ -1,10 +1,12 @@
 //! Mode `sheets`: whole sheets through the listing program.
 
+use super::starts;
 use crate::edges::{self, Edge};
 use crate::gen::sheets::{fixed, random, Input, BY_CHANCE, FIXED};
 use crate::gen::some_pause;
 use crate::model::probe::{self, LISTING_LIMIT, LISTING_MARKS, LISTING_PIXELS};
 use crate::model::sheet as model;
+use crate::model::word;
 use crate::peer::Peer;
 use crate::report::{self, fault, Found, Needed, Outcome, Plan};
 use crate::rng::Rng;
@@ -14,7 +16,7 @@ use std::io;
 use std::path::Path;
 use std::process::ExitCode;
 
-pub const DEFAULT_COUNT: u64 = 6_000;
+pub const DEFAULT_COUNT: u64 = 8_000;
 const OTHER: &str = "sheets of another program";
 const EDGES: &str = "edges by hand";
 
@@ -46,6 +48,7 @@ fn needed(plan: &Plan) -> Needed {
     let mut reached: Vec<String> = (11..=24).map(|number| format!("refused {number}")).collect();
     reached.extend((0..=9).map(|mark| format!("mark {mark} with headers")));
     reached.extend([0, 1, 7, 9].map(|mark| format!("mark {mark} without")));
+    reached.extend(starts::all());
     reached.extend(["answer 0", "answer 1", "too long"].map(String::from));
     let mut families = vec![OTHER, EDGES];
     families.extend(FIXED);
@@ -55,7 +58,7 @@ fn needed(plan: &Plan) -> Needed {
     Needed { reached, families }
 }
 
-/// What the model makes of a sheet: a rejection, or answer and marks.
+/// What the model makes of a sheet: a rejection, or answer, marks, and where lines start.
 pub fn reached(file: &[u8]) -> Vec<String> {
     if file.len() > LISTING_LIMIT {
         return vec!["too long".to_string()];
@@ -67,6 +70,12 @@ pub fn reached(file: &[u8]) -> Vec<String> {
             let marks: BTreeSet<u8> = found.lines.iter().map(|line| line.mark).collect();
             let mut all = vec![format!("answer {}", found.answer())];
             all.extend(marks.iter().map(|mark| format!("mark {mark} {kind}")));
+            // The offset stands before the body.
+            let start = |line: &model::Line| {
+                line.body.as_ref().map(|body| (word(file, body.start - 2), line.mark))
+            };
+            let starts = found.lines.iter().filter_map(start);
+            all.extend(starts::reached(found.header.kind, found.header.ppl, starts));
             all
         }
     }

@@ -1,7 +1,7 @@
 //! The C functions: what each returns, and what it leaves in the slices that it is lent.
 
 use super::header::{self, Resolution};
-use super::sheet;
+use super::sheet::{self, Sheet};
 use super::turn;
 use super::writer::{self, Order};
 use super::Rejection;
@@ -65,11 +65,15 @@ pub fn raster(file: &[u8], pixels: &mut [u8], marks: &mut [u8], answer: &mut [u8
     if (marks.len() as u64) < h.nol {
         return 24;
     }
-    let found = match sheet::read(file, h.ppl * h.nol, h.nol) {
+    match sheet::read(file, h.ppl * h.nol, h.nol) {
         Err(number) => unreachable!("refused with {number} after all checks"),
-        Ok(found) => found,
-    };
-    let rows = pixels.chunks_mut(2 * h.ppl as usize);
+        Ok(found) => leave(&found, pixels, marks, answer),
+    }
+}
+
+/// Leaves what was read of a sheet, in slices that are long enough.
+pub fn leave(found: &Sheet, pixels: &mut [u8], marks: &mut [u8], answer: &mut [u8]) -> u32 {
+    let rows = pixels.chunks_mut(2 * found.header.ppl as usize);
     for ((line, row), mark) in found.lines.iter().zip(rows).zip(marks) {
         *mark = line.mark;
         for (place, &pixel) in row.chunks_mut(2).zip(&line.row) {

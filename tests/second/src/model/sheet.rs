@@ -102,23 +102,29 @@ fn headed_line(
         return (Err(1), Some(at + 8..file.len()), Next::Lost);
     }
     let body = at + 8..next;
+    let offset = word(file, at + 6);
     let reading = if word(file, at + 4) != k {
         Err(4)
-    } else if word(file, at + 6) != 0 {
+    } else if offset > ppl {
         Err(5)
     } else {
-        whole_body(&file[body.clone()], kind, ppl)
+        whole_body(&file[body.clone()], kind, ppl - offset).map(|rest| from_column(offset, rest))
     };
     (reading, Some(body), Next::At(next))
 }
 
-/// A body whose length the line's header gives: marks 6, 7 and 8.
-fn whole_body(body: &[u8], kind: u64, ppl: u64) -> Reading {
+/// A row whose first pixels are 0, and then those of a body.
+fn from_column(offset: u64, rest: Vec<u64>) -> Vec<u64> {
+    [vec![0; offset as usize], rest].concat()
+}
+
+/// A body whose length the line's header gives, for so many pixels: marks 6, 7 and 8.
+fn whole_body(body: &[u8], kind: u64, pixels: u64) -> Reading {
     let words: Vec<u64> = body.chunks(2).map(|pair| word(pair, 0)).collect();
     let count = words.len() as u64;
     let right = match kind {
-        2 => count == ppl.div_ceil(2),
-        3 => count == ppl,
+        2 => count == pixels.div_ceil(2),
+        3 => count == pixels,
         9 => count % 2 == 1,
         _ => count % 2 == 0,
     };
@@ -126,15 +132,15 @@ fn whole_body(body: &[u8], kind: u64, ppl: u64) -> Reading {
         return Err(6);
     }
     let runs: Vec<(u64, u64)> = match kind {
-        2 => return Ok(body[..ppl as usize].iter().map(|&byte| u64::from(byte)).collect()),
+        2 => return Ok(body[..pixels as usize].iter().map(|&byte| u64::from(byte)).collect()),
         3 => return Ok(words),
         9 => words.iter().enumerate().map(|(i, &run)| (i as u64 % 2, run)).collect(),
         _ => words.chunks(2).map(|pair| (pair[0], pair[1])).collect(),
     };
     let total: u64 = runs.iter().map(|run| run.1).sum();
     match total {
-        _ if total > ppl => Err(7),
-        _ if total < ppl => Err(8),
+        _ if total > pixels => Err(7),
+        _ if total < pixels => Err(8),
         _ => Ok(spread(&runs)),
     }
 }
