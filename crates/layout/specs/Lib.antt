@@ -1,4 +1,5 @@
 pub mod Chain
+pub mod Partway
 pub mod PixelBytes
 pub mod Reading
 pub mod Scanline

@@ -1,4 +1,5 @@
 pub mod Chain
 pub mod Line
+pub mod Partway
 pub mod PixelBytes
 pub mod Reading
