@@ -16,7 +16,7 @@
 
 static const char *const REASONS[] = {
     "good", "it runs past the file", "wrong identifier", "too few words to follow",
-    "wrong line number", "pixel offset", "wrong count of words", "runs total too much",
+    "wrong line number", "pixel offset past the line", "wrong count of words", "runs total too much",
     "runs total too little", "it follows a lost line"};
 
 /* Reads the raster of a file that is in memory, and answers 0, 1 or a rejection. */

@@ -86,7 +86,7 @@ expected() {
     "$second" fake-listing <"$file" >"$room/listing" && "$second" fake-header <"$file" >"$room/colors" || return 1
     awk -v colors="$room/colors" '
         BEGIN {
-            split("it runs past the file|wrong identifier|too few words to follow|wrong line number|pixel offset|wrong count of words|" \
+            split("it runs past the file|wrong identifier|too few words to follow|wrong line number|pixel offset past the line|wrong count of words|" \
                 "runs total too much|runs total too little|it follows a lost line", reason, "|")
             while ((getline line <colors) > 0) { split(line, part, ": "); color[part[1]] = part[2] }
         }

@@ -70,14 +70,18 @@ fn paint_from(dtc: u16, body: &[u8], column: usize, row: &mut [u16])
     paint_body(dtc, body, &mut row[column..]);
 }
 
-// The same in the bytes of a row of p pixels.
+// The same in the bytes of a row of p pixels. Nearly every scanline starts in the first column, where there is nothing to clear.
 fn paint_bytes_from(dtc: u16, body: &[u8], column: usize, p: usize, row: &mut [u8])
     requires { ⌜ column ≤ p ⌝ }
     requires { ⌜ wordBytes p ≤ length (now row) ⌝ }
     ensures { λ _. ⌜ now (row .exit) ≡ zeros (wordBytes column) ++ (over (wordsToBytes (bodyPixels dtc (now (body .entry)) (p - column))) (zeros (wordBytes (p - column))) ++ drop (wordBytes p) (now (row .entry))) ⌝ }
 {
-    let start = words_to_bytes(Words(column)).0;
     let size = words_to_bytes(Words(p - column)).0;
+    if column == 0 {
+        paint_body_bytes(dtc, body, &mut row[..size]);
+        return;
+    }
+    let start = words_to_bytes(Words(column)).0;
     clear(&mut row[..start]);
     paint_body_bytes(dtc, body, &mut row[start..start + size]);
 }

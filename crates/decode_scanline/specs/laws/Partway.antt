@@ -61,3 +61,17 @@ module _ (at : ℕ) (row done : List ℕ) (h : at ≤ length row) (e : done ≡ 
         ∙ ap (λ (m : ℕ). zeros (wordBytes column) ++ (part ++ drop m row)) n
         ∙ ap (λ (x : List ℕ). zeros (wordBytes column) ++ (x ++ drop (wordBytes p) row))
         (q ∙ (λ i. over (wordsToBytes (pixels (w i))) (zeros ((l ∙ b) i))))
+
+-- the same from the first column on: nothing was cleared, and the row's first part was lent
+pub whole-painted : (column p size : ℕ) (row part : List ℕ) (pixels : ℕ → List ℕ) → column ≡ 0 → size ≡ wordBytes (p - column) → wordBytes p ≤ length row
+    → part ≡ over (wordsToBytes (pixels (wordCount (take size row) .0))) (zeros (length (take size row)))
+    → part ++ drop size row
+    ≡ zeros (wordBytes column) ++ (over (wordsToBytes (pixels (p - column))) (zeros (wordBytes (p - column))) ++ drop (wordBytes p) row)
+whole-painted column p size row part pixels none b fits q =
+    let l : length (take size row) ≡ size = length-take-le size row (omega arith) in
+    let w : wordCount (take size row) .0 ≡ p - column = omega arith in
+    let n : size ≡ wordBytes p = omega arith in
+    let z : wordBytes column ≡ 0 = omega arith in
+    rw z
+    (ap (λ (x : List ℕ). x ++ drop size row) (q ∙ (λ i. over (wordsToBytes (pixels (w i))) (zeros ((l ∙ b) i))))
+    ∙ ap (λ (m : ℕ). over (wordsToBytes (pixels (p - column))) (zeros (wordBytes (p - column))) ++ drop m row) n)
