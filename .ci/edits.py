@@ -24,7 +24,7 @@ LINES = ('# ', 'fact: ', 'file: ', 'old: ', 'new: ')
 COMPARISONS = {'lt', 'le', 'gt', 'ge', 'eq', 'ne'}
 LEAVES = {'true': '_', 'false': '_', 'eq': 'comparison', 'ne': 'comparison'}
 # What the prover says where a proof does not fit the code any more.
-UNFIT = re.compile(r'has no `?Need-|(expected|has) type `(tie\.)?Need-|no field `|takes (more|fewer) arguments|too many arguments|λ has \d+ binder')
+UNFIT = re.compile(r'has no `?Need-|(expected|has) type `(tie\.)?Need-|no field `|takes (more|fewer) arguments|too many arguments|applied to an argument but has type|λ has \d+ binder')
 
 
 def faults_of_text(text):

@@ -83,6 +83,7 @@ RESTS = '/t/must-fail/units/label/proofs/u16_at/Proof.antt:9:1: error: `spec`: `
 UNFIT = '/t/must-fail/units/label/proofs/u16_at/Proof.antt:10:13: error: `returns`: `tie` has no `Need-returns-2` that can be named from here\n'
 SHIFTED = '/t/must-fail/units/label/proofs/u16_at/Proof.antt:10:13: error: `returns`: expected type `tie.Need-add`, but this has type `tie.Need-returns`\n'
 BINDERS = '/t/must-fail/units/label/proofs/u16_at/Proof.antt:69:10: error: `u16-at-spec`: this λ has 2 binders, but its type has room for only 1\n'
+APPLIED = '/t/must-fail/units/label/proofs/u16_at/Proof.antt:10:57: error: `returns`: this is applied to an argument but has type `_<_ a b`\n'
 DEFINED = '/t/must-fail/units/label/specs/Counts.antt:10:13: error: `returns`: for a numeral, use it as an argument\n'
 UNPROVED = 'fn units::little_endian::u16_at: no proof: expected `u16-at-spec` in F; `search` does not close `returns`\n'
 
@@ -95,6 +96,7 @@ LOGS = [
     ('a proof that names other needs', UNFIT, 'u16_at returns', 'does not fit'),
     ('a proof that is shifted', SHIFTED, 'u16_at returns', 'does not fit'),
     ('a proof with other parts', BINDERS, 'u16_at u16-at-spec', 'does not fit'),
+    ('a proof that takes a fact of another kind', APPLIED, 'u16_at returns', 'does not fit'),
     ('a definition that is refused', DEFINED, 'specs/Counts.antt returns', 'itself is refused'),
 ]
 

@@ -1,7 +1,7 @@
 use native.Mathlib.Omega.{arith}
-use mathlib.Core.Path.{sym, _∙_}
 use borrow.Author.Tests.{eq-eqb, ne-eqb, lt-ltb, le-ltb}
 use borrow.Author.Needs.{needs}
+use Rattle.units.specs.LittleEndian.{u16At}
 use Rattle.layout.specs.Scanline.{headOf, pixelOffset}
 use Rattle.layout.specs.laws.Line.{head-word}
 use Rattle.scan_scanline.proofs.headed.placement_status.Statement.{statement}
@@ -9,9 +9,10 @@ use Rattle.scan_scanline.proofs.headed.placement_status.Tie as tie
 
 returns : tie.Need-returns
 returns c =
-    let o = c .before in
-    let f = o .before .before .before .args .rest .now in
-    simp (head-word f 4 (omega arith), ne-eqb _ _ (λ q. c .if1 .taken (o .before .u16-at .ensures ∙ q)))
+    let n = c .before .before in
+    let a = n .before .before .args in
+    let f = a .rest .now in
+    simp (head-word f 4 (omega arith), ne-eqb (u16At f 4) (a .number) (λ q. omega (arith, n .u16-at .ensures)))
 
 returns-2 : tie.Need-returns-2
 returns-2 c =
@@ -21,7 +22,7 @@ returns-2 c =
     let f = a .rest .now in
     simp (
       head-word f 4 (omega arith),
-      eq-eqb _ _ (sym (n .u16-at .ensures) ∙ d .if1 .left),
+      eq-eqb (u16At f 4) (a .number) (omega (arith, n .u16-at .ensures)),
       lt-ltb (a .p) (pixelOffset (headOf f)) (omega arith),
     )
 
@@ -33,7 +34,7 @@ returns-3 c =
     let f = a .rest .now in
     simp (
       head-word f 4 (omega arith),
-      eq-eqb _ _ (sym (n .u16-at .ensures) ∙ d .if1 .left),
+      eq-eqb (u16At f 4) (a .number) (omega (arith, n .u16-at .ensures)),
       le-ltb (a .p) (pixelOffset (headOf f)) (omega arith),
     )
 
