@@ -56,8 +56,12 @@ placementRules p number hd = rule 4 (not (eqb (u16At hd 4) number)) ∷ rule 5 (
 abbrev pub statusRules : ℕ → ℕ → ℕ → List ℕ → List ℕ → List Rule
 statusRules t p number hd body = lostRules hd body ++ (placementRules p number hd ++ bodyRules t body (bodyWidth p hd))
 
+-- the pixels of a row of p: zeros before the offset, and then the body's
+abbrev pub rowPixels : ℕ → ℕ → List ℕ → List ℕ → List ℕ
+rowPixels t p hd body = zeros (pixelOffset hd) ++ bodyPixels t body (bodyWidth p hd)
+
 -- The reading of a scanline: its status and its row. With a header it is settled by the data type, the row's length, the
--- wanted line number, the header's bytes and the body: the pixels before the offset are 0, and the body's follow them.
+-- wanted line number, the header's bytes and the body.
 pub record Reading : Type 0 where
   pub status : ℕ
   pub row : List ℕ
@@ -66,7 +70,7 @@ unfoldable pub reading : ℕ → ℕ → ℕ → List ℕ → List ℕ → Readi
 reading t p number hd body =
     record {
       status = first (statusRules t p number hd body);
-      row = rowOf (first (statusRules t p number hd body)) p (zeros (pixelOffset hd) ++ bodyPixels t body (bodyWidth p hd));
+      row = rowOf (first (statusRules t p number hd body)) p (rowPixels t p hd body);
     }
 
 abbrev pub headedReading : ℕ → ℕ → ℕ → List ℕ → Reading

@@ -11,12 +11,12 @@ use borrow.Author.Tests.{lt-ltb, le-ltb, eq-eqb, ne-eqb, ltb-false, eqb-true, no
 use Rattle.units.specs.Counts.{bytesOfWords, wordBytes}
 use Rattle.units.specs.LittleEndian.{byteAt, u16At}
 use Rattle.units.specs.Over.{zeros}
-use Rattle.units.specs.Rules.{rule, first}
+use Rattle.units.specs.Rules.{Rule, rule, first}
 use Rattle.units.specs.laws.Rules.{NoneHolds, none-holds, first-here, first-later, both-none}
 use Rattle.codec.specs.Codec.{rowOf}
 use Rattle.codec.specs.Table.{bodyRules, bodyPixels, bodyExtent}
 use Rattle.codec.specs.laws.Lawful.{lawful}
-use Rattle.layout.specs.Scanline.{headOf, following, bodySize, headRules, bodyOf, lostRules, pixelOffset, bodyWidth, placementRules, reading, isLost, headedReading, openReading, headedStep, openStep, stepOf, readingOf}
+use Rattle.layout.specs.Scanline.{headOf, following, bodySize, headRules, bodyOf, lostRules, pixelOffset, bodyWidth, placementRules, rowPixels, reading, isLost, headedReading, openReading, headedStep, openStep, stepOf, readingOf}
 
 -- the header's fields, where they stand in the bytes that are left
 module _ (rest : List ℕ) where
@@ -126,14 +126,18 @@ kept rest h = not-lost rest (eqb-true (lostBy rest) 0 (not-false (eqb (lostBy re
 
 -- the status of a scanline with a header: that of the first part of the table that has one
 module _ (t p number : ℕ) (hd body : List ℕ) where
+  -- the rules of a scanline that is not lost
+  abbrev keptRules : List Rule
+  keptRules = placementRules p number hd ++ bodyRules t body (bodyWidth p hd)
+
   pub status-lost : (first (lostRules hd body) ≡ 0 → ⊥) → reading t p number hd body .status ≡ first (lostRules hd body)
   unfolding reading
-  status-lost some = first-here (lostRules hd body) (placementRules p number hd ++ bodyRules t body (bodyWidth p hd)) some
+  status-lost some = first-here (lostRules hd body) keptRules some
 
   module _ (none : first (lostRules hd body) ≡ 0) where
-    past-lost : reading t p number hd body .status ≡ first (placementRules p number hd ++ bodyRules t body (bodyWidth p hd))
+    past-lost : reading t p number hd body .status ≡ first keptRules
     unfolding reading
-    past-lost = first-later (lostRules hd body) (placementRules p number hd ++ bodyRules t body (bodyWidth p hd)) tt none
+    past-lost = first-later (lostRules hd body) keptRules tt none
 
     pub status-field : (first (placementRules p number hd) ≡ 0 → ⊥) → reading t p number hd body .status ≡ first (placementRules p number hd)
     status-field some = past-lost ∙ first-here (placementRules p number hd) (bodyRules t body (bodyWidth p hd)) some
@@ -141,10 +145,9 @@ module _ (t p number : ℕ) (hd body : List ℕ) where
     pub status-body : first (placementRules p number hd) ≡ 0 → reading t p number hd body .status ≡ first (bodyRules t body (bodyWidth p hd))
     status-body none₂ = past-lost ∙ first-later (placementRules p number hd) (bodyRules t body (bodyWidth p hd)) tt none₂
 
-  pub row-by-status : {n : ℕ} → reading t p number hd body .status ≡ n
-      → reading t p number hd body .row ≡ rowOf n p (zeros (pixelOffset hd) ++ bodyPixels t body (bodyWidth p hd))
+  pub row-by-status : {n : ℕ} → reading t p number hd body .status ≡ n → reading t p number hd body .row ≡ rowOf n p (rowPixels t p hd body)
   unfolding reading
-  row-by-status e = ap (λ (s : ℕ). rowOf s p (zeros (pixelOffset hd) ++ bodyPixels t body (bodyWidth p hd))) e
+  row-by-status e = ap (λ (s : ℕ). rowOf s p (rowPixels t p hd body)) e
 
 -- an offset that no test refuses lies within the row, or at its end
 pub offset-within : (p number : ℕ) (hd : List ℕ) → first (placementRules p number hd) ≡ 0 → pixelOffset hd ≤ p
@@ -161,7 +164,7 @@ pub record NoFault (t p number : ℕ) (hd b : List ℕ) : Type 0 where
 pub no-fault : (t p number : ℕ) (hd body : List ℕ) → reading t p number hd body .status ≡ 0 → NoFault t p number hd body
 unfolding reading
 no-fault t p number hd body h =
-    let a = both-none (lostRules hd body) (placementRules p number hd ++ bodyRules t body (bodyWidth p hd)) tt h in
+    let a = both-none (lostRules hd body) (keptRules t p number hd body) tt h in
     let b = both-none (placementRules p number hd) (bodyRules t body (bodyWidth p hd)) tt (a .1) in
     record { frame = a .0; fields = b .0; offset = offset-within p number hd (b .0); body = b .1 }
 
@@ -178,8 +181,7 @@ rowOf-length n p xs h = go (eqb n 0) refl
     go false e = length-replicate p 0
 
 -- with a header: the zeros before the offset and the body's pixels make up the row
-good-length : (t p number : ℕ) (hd body : List ℕ) → NoFault t p number hd body
-    → length (zeros (pixelOffset hd) ++ bodyPixels t body (bodyWidth p hd)) ≡ p
+good-length : (t p number : ℕ) (hd body : List ℕ) → NoFault t p number hd body → length (rowPixels t p hd body) ≡ p
 good-length t p number hd body n =
     let z : length (zeros (pixelOffset hd)) ≡ pixelOffset hd = length-replicate (pixelOffset hd) 0 in
     omega (
@@ -220,8 +222,7 @@ module _ (scn t p : ℕ) (rest : List ℕ) where
       go : (s : Bool) → length (cond s (headedReading t p number rest) (openReading t p rest) .row) ≡ p
       go true =
           ap length (row-by-status t p number (headOf rest) (bodyOf rest) refl)
-          ∙ rowOf-length (reading t p number (headOf rest) (bodyOf rest) .status) p
-          (zeros (pixelOffset (headOf rest)) ++ bodyPixels t (bodyOf rest) (bodyWidth p (headOf rest)))
+          ∙ rowOf-length (reading t p number (headOf rest) (bodyOf rest) .status) p (rowPixels t p (headOf rest) (bodyOf rest))
           (λ e. good-length t p number (headOf rest) (bodyOf rest) (no-fault t p number (headOf rest) (bodyOf rest) e))
       go false =
           rowOf-length (bodyExtent t rest p .status) p (bodyPixels t (take (bodyExtent t rest p .used .0) rest) p)

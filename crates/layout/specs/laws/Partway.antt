@@ -14,7 +14,7 @@ use Rattle.units.specs.Rules.{first}
 use Rattle.units.specs.laws.Over.{sets-misses}
 use Rattle.codec.specs.Codec.{rowOf}
 use Rattle.codec.specs.Table.{bodyPixels}
-use Rattle.layout.specs.Scanline.{pixelOffset, bodyWidth, statusRules, reading}
+use Rattle.layout.specs.Scanline.{pixelOffset, bodyWidth, statusRules, rowPixels, reading}
 use Rattle.layout.specs.Partway.{fromStart, StartsPartway, AllStartPartway}
 
 set-zero : (l : List ℕ) (i : ℕ) → getD (set l i 0) i 0 ≡ 0
@@ -75,10 +75,10 @@ module _ (t p number : ℕ) (hd body : List ℕ) (h : pixelOffset hd ≤ p) wher
       record {
         status = s;
         row =
-            ap (λ (n : ℕ). rowOf n p (o ++ bodyPixels t body w)) s
+            ap (λ (n : ℕ). rowOf n p (rowPixels t p hd body)) s
             ∙ row-shifted after (bodyPixels t body w)
             ∙ ap₂ (λ (n m : ℕ). o ++ rowOf after w (zeros n ++ bodyPixels t body m)) (sym (offset-gone hd)) same;
       }
 
 pub starts-partway : AllStartPartway
-starts-partway t p number hd body h = partway t p number hd body h
+starts-partway = partway

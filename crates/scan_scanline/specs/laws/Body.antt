@@ -12,7 +12,7 @@ use Rattle.codec.specs.Table.{bodyPixels, bodyExtent}
 use Rattle.codec.specs.laws.Lawful.{lawful}
 use Rattle.units.specs.Counts.{bytesOfWords}
 use Rattle.units.specs.Over.{zeros}
-use Rattle.layout.specs.Scanline.{headOf, bodyOf, following, pixelOffset, bodyWidth, reading, headedReading, openReading, headedStep, openStep, stepOf, readingOf}
+use Rattle.layout.specs.Scanline.{headOf, bodyOf, following, pixelOffset, rowPixels, reading, headedReading, openReading, headedStep, openStep, stepOf, readingOf}
 use Rattle.layout.specs.laws.Line.{NotLost, not-lost, is-not-lost, no-fault, row-by-status, length-row}
 use Rattle.scan_scanline.specs.declared.Scanline.{Scanline}
 use Rattle.scan_scanline.specs.Answer.{IsScan, bodyStart, firstColumn}
@@ -43,7 +43,7 @@ module _ (scn t p number : ℕ) (rest : List ℕ) where
             full = full;
             row-is =
                 row-by-status t p number (headOf rest) (bodyOf rest) e
-                ∙ ap (λ (b : List ℕ). zeros (pixelOffset (headOf rest)) ++ bodyPixels t b (bodyWidth p (headOf rest)))
+                ∙ ap (rowPixels t p (headOf rest))
                 (n .body ∙ ap (λ (m : ℕ). take (m - 8) (drop 8 rest)) (sym u));
           }
       go false e full =

@@ -24,25 +24,32 @@ use Rattle.scan_scanline.specs.laws.Body.{good-line}
 abbrev pub goodScan : ℕ → Scanline
 goodScan n = record { status = 0; lost = false; used = nBytes n }
 
+-- what the tests of a regular header say
+record HeadIs (number size : ℕ) (rest : List ℕ) : Type 0 where
+  identifier : byteAt rest 1 ≡ 0x59
+  words : 4 + wordBytes (u16At rest 2) ≡ size
+  number-is : u16At rest 4 ≡ number
+  offset : u16At rest 6 ≡ 0
+
+head-is : (number size : ℕ) (rest : List ℕ) → isRegularHead number size rest ≡ true → HeadIs number size rest
+head-is number size rest head =
+    let t = both-true (eqb (byteAt rest 1) 0x59) _ head in
+    let s = both-true (eqb (4 + wordBytes (u16At rest 2)) size) _ (t .1) in
+    let o = both-true (eqb (u16At rest 4) number) (eqb (u16At rest 6) 0) (s .1) in
+    record { identifier = eqb-true _ _ (t .0); words = eqb-true _ _ (s .0); number-is = eqb-true _ _ (o .0); offset = eqb-true _ _ (o .1) }
+
 -- with a header
-module _ (p number : ℕ) (rest : List ℕ) (fits : 8 + p + p % 2 ≤ length rest) (head : isRegularHead number (8 + p + p % 2) rest ≡ true) where
+module _ (p number : ℕ) (rest : List ℕ) (fits : 8 + p + p % 2 ≤ length rest) (head : HeadIs number (8 + p + p % 2) rest) where
   headed-offset : pixelOffset (headOf rest) ≡ 0
-  headed-offset =
-      let t = both-true (eqb (byteAt rest 1) 0x59) _ head in
-      let s = both-true (eqb (4 + wordBytes (u16At rest 2)) (8 + p + p % 2)) _ (t .1) in
-      let o = both-true (eqb (u16At rest 4) number) (eqb (u16At rest 6) 0) (s .1) in
-      head-word rest 6 (omega arith) ∙ eqb-true _ _ (o .1)
+  headed-offset = head-word rest 6 (omega arith) ∙ head .offset
 
   headed-good : IsScan (headedStep rest) (headedReading 2 p number rest) (goodScan (8 + p + p % 2))
   unfolding codecOf
   headed-good =
-      let t = both-true (eqb (byteAt rest 1) 0x59) _ head in
-      let s = both-true (eqb (4 + wordBytes (u16At rest 2)) (8 + p + p % 2)) _ (t .1) in
-      let o = both-true (eqb (u16At rest 4) number) (eqb (u16At rest 6) 0) (s .1) in
-      let w : 4 + wordBytes (u16At rest 2) ≡ 8 + p + p % 2 = eqb-true _ _ (s .0) in
-      let none : lostBy rest ≡ 0 = lost-not rest (omega arith) (eqb-true _ _ (t .0)) (omega arith) (omega arith) in
+      let w : 4 + wordBytes (u16At rest 2) ≡ 8 + p + p % 2 = head .words in
+      let none : lostBy rest ≡ 0 = lost-not rest (omega arith) (head .identifier) (omega arith) (omega arith) in
       let placed : first (placementRules p number (headOf rest)) ≡ 0 =
-      simp (head-word rest 4 (omega arith), o .0, le-ltb p (pixelOffset (headOf rest)) (omega (arith, headed-offset))) in
+      simp (eq-eqb _ _ (head-word rest 4 (omega arith) ∙ head .number-is), le-ltb p (pixelOffset (headOf rest)) (omega (arith, headed-offset))) in
       let size : length (bodyOf rest) ≡ p + p % 2 = omega (arith, not-lost rest none .size, head-word rest 2 (omega arith)) in
       let width : bodyWidth p (headOf rest) ≡ p = omega (arith, headed-offset) in
       let body : first (bodyRules 2 (bodyOf rest) (bodyWidth p (headOf rest))) ≡ 0 = rw width (simp (eq-eqb _ _ size)) in
@@ -82,7 +89,8 @@ module _ (scn p number : ℕ) (rest : List ℕ) (tests : isRegular scn number (r
       go true e =
           let t = both-true (leb (8 + p + p % 2) (length rest)) (isRegularHead number (8 + p + p % 2) rest) e in
           let fits = leb-true (8 + p + p % 2) (length rest) (t .0) in
-          record { fits = fits; column = headed-offset p number rest fits (t .1); scan = headed-good p number rest fits (t .1) }
+          let head = head-is number (8 + p + p % 2) rest (t .1) in
+          record { fits = fits; column = headed-offset p number rest fits head; scan = headed-good p number rest fits head }
       go false e =
           let fits = leb-true p (length rest) (both-true (leb p (length rest)) true e .0) in
           record { fits = fits; column = refl; scan = open-good p rest fits }
