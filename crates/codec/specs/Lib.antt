@@ -4,6 +4,7 @@ pub mod WordPixels
 pub mod RunPixels
 pub mod PairPixels
 pub mod Leading
+pub mod Former
 pub mod Table
 pub mod ZeroRuns
 pub mod laws

@@ -1,12 +1,13 @@
 -- Type 10: runs of any value.
-use Prim.Native.Nat.{ℕ, zero, suc, _+_, _-_, _%_}
+use Prim.Native.Nat.{ℕ, _+_, _-_, _%_}
 use mathlib.Core.Bool.{not, cond}
 use mathlib.Core.List.{List, [], _∷_, _++_}
 use lib.ListN.{replicate}
-use lib.Dec.{eqb, ltb, leb}
+use lib.Dec.{eqb, ltb}
 use Rattle.units.specs.Counts.{wordBytes}
 use Rattle.units.specs.Rules.{Rule, rule}
 use Rattle.units.specs.Words.{words, wordsToBytes, wordCount}
+use Rattle.cutting.specs.Pieces.{valuePieces}
 use Rattle.codec.specs.declared.Extent.{Extent}
 use Rattle.codec.specs.Codec.{Codec, taken, fault}
 
@@ -40,18 +41,11 @@ pairsFrom left (v ∷ (n ∷ ws)) used =
 abbrev pub pairExtent : List ℕ → ℕ → Extent
 pairExtent r p = pairsFrom p (words r) 0
 
--- Written: the runs of equal pixels of a row, the longest there are. A run of n pixels is cut as one of type 9 is, with the value
--- before each piece.
-unfoldable pub valuePieces : ℕ → ℕ → ℕ → List ℕ
-valuePieces v zero n = v ∷ (n ∷ [])
-valuePieces v (suc most) n =
-    let rest = valuePieces v most (n - 32767) in
-    cond (leb n 32767) (v ∷ (n ∷ [])) (v ∷ (32767 ∷ rest))
-
--- a run of value v holds n pixels so far
+-- Written: the runs of equal pixels of a row, the longest there are, each cut. `valueRuns v n row`: a run of value v holds n pixels so
+-- far.
 unfoldable pub valueRuns : ℕ → ℕ → List ℕ → List ℕ
-valueRuns v n [] = valuePieces v n n
-valueRuns v n (x ∷ r) = cond (eqb x v) (valueRuns v (n + 1) r) (valuePieces v n n ++ valueRuns x 1 r)
+valueRuns v n [] = valuePieces v n
+valueRuns v n (x ∷ r) = cond (eqb x v) (valueRuns v (n + 1) r) (valuePieces v n ++ valueRuns x 1 r)
 
 unfoldable pub pairWords : List ℕ → List ℕ
 pairWords [] = []

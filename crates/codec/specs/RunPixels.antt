@@ -1,12 +1,13 @@
 -- Type 9: runs of two levels.
-use Prim.Native.Nat.{ℕ, zero, suc, _+_, _-_, _%_}
+use Prim.Native.Nat.{ℕ, _+_, _-_, _%_}
 use mathlib.Core.Bool.{cond, _&&_}
 use mathlib.Core.List.{List, [], _∷_, _++_}
 use lib.ListN.{replicate}
-use lib.Dec.{eqb, ltb, leb}
+use lib.Dec.{eqb, ltb}
 use Rattle.units.specs.Counts.{wordBytes}
 use Rattle.units.specs.Rules.{Rule, rule}
 use Rattle.units.specs.Words.{words, wordsToBytes, wordCount}
+use Rattle.cutting.specs.Pieces.{levelPieces}
 use Rattle.codec.specs.declared.Extent.{Extent}
 use Rattle.codec.specs.Codec.{Codec, taken, fault}
 
@@ -45,17 +46,10 @@ unfoldable pub levelRuns : ℕ → ℕ → List ℕ → List ℕ
 levelRuns v n [] = cond (eqb v 0) (n ∷ []) (n ∷ (0 ∷ []))
 levelRuns v n (x ∷ r) = cond (eqb x v) (levelRuns v (n + 1) r) (n ∷ levelRuns (1 - v) 1 r)
 
--- A run of n pixels in pieces of at most 32,767, the rest last, with a run of 0 of the other level between them.
--- At most `most` pieces are taken off: a run of n pixels has fewer than n full ones.
-unfoldable pub levelPieces : ℕ → ℕ → List ℕ
-levelPieces zero n = n ∷ []
-levelPieces (suc most) n =
-    let rest = levelPieces most (n - 32767) in
-    cond (leb n 32767) (n ∷ []) (32767 ∷ (0 ∷ rest))
-
+-- each run cut
 unfoldable pub cutLevels : List ℕ → List ℕ
 cutLevels [] = []
-cutLevels (n ∷ r) = levelPieces n n ++ cutLevels r
+cutLevels (n ∷ r) = levelPieces n ++ cutLevels r
 
 -- the words of a type 9 body
 abbrev pub runWords : List ℕ → List ℕ

@@ -1,8 +1,8 @@
 pub mod Lawful
+pub mod Former
 pub mod Leading
 pub mod PairReading
 pub mod PairWriting
-pub mod Pieces
 pub mod RoundTrip
 pub mod RoundTripPairs
 pub mod RoundTripRuns

@@ -6,7 +6,8 @@ ghost use lib.Seq.{sets};
 ghost use Rattle.units.specs.Counts.{wordBytes};
 ghost use Rattle.units.specs.Over.{over};
 ghost use Rattle.units.specs.Words.{wordsToBytes};
-ghost use Rattle.codec.specs.PairPixels.{valuePieces, pairBody};
+ghost use Rattle.cutting.specs.Pieces.{valuePieces};
+ghost use Rattle.codec.specs.PairPixels.{pairBody};
 use crate::measuring::run_end;
 use crate::put_next;
 use units::Bytes;
@@ -29,9 +30,9 @@ pub fn write_pairs(row: &[u16], out: &mut [u8]) -> Bytes
 
 // One run of n pixels, in pieces, each with its value. Answers the place after it.
 fn put_pairs(out: &mut [u8], at: usize, v: u16, n: usize) -> usize
-    requires { ⌜ at + wordBytes (length (valuePieces v n n)) < 2 ^ 64 ⌝ }
-    ensures { λ r. ⌜ r ≡ at + wordBytes (length (valuePieces v n n)) ⌝ }
-    ensures { λ _. ⌜ now (out .exit) ≡ sets (now (out .entry)) at (wordsToBytes (valuePieces v n n)) ⌝ }
+    requires { ⌜ at + wordBytes (length (valuePieces v n)) < 2 ^ 64 ⌝ }
+    ensures { λ r. ⌜ r ≡ at + wordBytes (length (valuePieces v n)) ⌝ }
+    ensures { λ _. ⌜ now (out .exit) ≡ sets (now (out .entry)) at (wordsToBytes (valuePieces v n)) ⌝ }
 {
     let mut to = at;
     let mut left = n;

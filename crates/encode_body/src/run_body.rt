@@ -6,7 +6,8 @@ ghost use lib.Seq.{sets};
 ghost use Rattle.units.specs.Counts.{wordBytes};
 ghost use Rattle.units.specs.Over.{over};
 ghost use Rattle.units.specs.Words.{wordsToBytes};
-ghost use Rattle.codec.specs.RunPixels.{levelPieces, runBody};
+ghost use Rattle.cutting.specs.Pieces.{levelPieces};
+ghost use Rattle.codec.specs.RunPixels.{runBody};
 use crate::measuring::run_end;
 use crate::put_next;
 use units::Bytes;
@@ -35,9 +36,9 @@ pub fn write_runs(row: &[u16], out: &mut [u8]) -> Bytes
 
 // One run of n pixels, in pieces with empty runs of the other level between them. Answers the place after it.
 fn put_run(out: &mut [u8], at: usize, n: usize) -> usize
-    requires { ⌜ at + wordBytes (length (levelPieces n n)) < 2 ^ 64 ⌝ }
-    ensures { λ r. ⌜ r ≡ at + wordBytes (length (levelPieces n n)) ⌝ }
-    ensures { λ _. ⌜ now (out .exit) ≡ sets (now (out .entry)) at (wordsToBytes (levelPieces n n)) ⌝ }
+    requires { ⌜ at + wordBytes (length (levelPieces n)) < 2 ^ 64 ⌝ }
+    ensures { λ r. ⌜ r ≡ at + wordBytes (length (levelPieces n)) ⌝ }
+    ensures { λ _. ⌜ now (out .exit) ≡ sets (now (out .entry)) at (wordsToBytes (levelPieces n)) ⌝ }
 {
     let mut to = at;
     let mut left = n;

@@ -9,7 +9,9 @@ use lib.ListN.{length, replicate, length-append, length-replicate, replicate-app
 use lib.Dec.{eqb, leb}
 use Rattle.units.specs.Counts.{wordBytes}
 use Rattle.units.specs.Words.{words}
-use Rattle.codec.specs.PairPixels.{pairPixels, pairTotal, pairsFrom, pairExtent, valuePieces, valueRuns, pairWords, pairBody}
+use Rattle.cutting.specs.Pieces.{valuePieces}
+use Rattle.cutting.specs.laws.Rule.{by-pieces, pairs-cut}
+use Rattle.codec.specs.PairPixels.{pairPixels, pairTotal, pairsFrom, pairExtent, valueRuns, pairWords, pairBody}
 use Rattle.codec.specs.Codec.{taken}
 use Rattle.units.specs.laws.Words.{words-before}
 use Rattle.codec.specs.laws.RoundTripWords.{AllBelow, all-append, both-used, all-used, one-more}
@@ -19,18 +21,11 @@ data Pieces : ℕ → ℕ → List ℕ → Type 0 where
   whole : {v n : ℕ} → n < 65536 → Pieces v n (v ∷ (n ∷ []))
   more : {v n k m : ℕ} {ws : List ℕ} → n ≡ k + m → 0 < m → k < 65536 → Pieces v m ws → Pieces v n (v ∷ (k ∷ ws))
 
-pieces-step : (v n : ℕ) (rest : List ℕ) (short : Bool) → leb n 32767 ≡ short → (32767 < n → Pieces v (n - 32767) rest)
-    → Pieces v n (cond short (v ∷ (n ∷ [])) (v ∷ (32767 ∷ rest)))
-pieces-step v n rest true e ih = let h : n ≤ 32767 = leb-true n 32767 e in whole {n = n} (omega arith)
-pieces-step v n rest false e ih =
-    let h : 32767 < n = leb-false n 32767 e in
-    more {n = n} {k = 32767} {m = n - 32767} (omega arith) (omega arith) (omega arith) (ih h)
-
-pieces : (v most n : ℕ) → n ≤ 32767 * suc most → Pieces v n (valuePieces v most n)
-unfolding valuePieces
-pieces v zero n h = whole {n = n} (omega arith)
-pieces v (suc most) n h =
-    pieces-step v n (valuePieces v most (n - 32767)) (leb n 32767) refl (λ g. pieces v most (n - 32767) (omega arith))
+run-pieces : (v n : ℕ) → Pieces v n (valuePieces v n)
+run-pieces v =
+    by-pieces (λ n. Pieces v n (valuePieces v n))
+    (λ n h. rw (pairs-cut v .up-to-32767 n h) (whole {n = n} (omega arith)))
+    (λ n h ih. rw (pairs-cut v .above-32767 n h) (more {n = n} {k = 32767} {m = n - 32767} (omega arith) (omega arith) (omega arith) ih))
 
 -- The words of a row from a run of value v on, which holds n pixels so far.
 data Turns : ℕ → ℕ → List ℕ → List ℕ → Type 0 where
@@ -45,10 +40,10 @@ turns-step v n x row a ps b false e s p t = turn p t refl
 
 turns : (v n : ℕ) (row : List ℕ) → Turns v n row (valueRuns v n row)
 unfolding valueRuns
-turns v n [] = ends (pieces v n n (omega arith))
+turns v n [] = ends (run-pieces v n)
 turns v n (x ∷ row) =
-    turns-step v n x row (valueRuns v (n + 1) row) (valuePieces v n n) (valueRuns x 1 row) (eqb x v) refl
-    (turns v (n + 1) row) (pieces v n n (omega arith)) (turns x 1 row)
+    turns-step v n x row (valueRuns v (n + 1) row) (valuePieces v n) (valueRuns x 1 row) (eqb x v) refl
+    (turns v (n + 1) row) (run-pieces v n) (turns x 1 row)
 
 -- the pixels: a run of n, whole or in pieces
 pieces-pixels : {v n : ℕ} {ws : List ℕ} → Pieces v n ws → (r : List ℕ) → pairPixels (ws ++ r) ≡ replicate n v ++ pairPixels r

@@ -9,7 +9,9 @@ use lib.ListN.{length, replicate, length-append, replicate-append-replicate}
 use lib.Dec.{eqb, leb}
 use Rattle.units.specs.Counts.{wordBytes}
 use Rattle.units.specs.Words.{words}
-use Rattle.codec.specs.RunPixels.{runPixels, runTotal, runsFrom, runExtent, levelRuns, levelPieces, cutLevels, runWords, runBody}
+use Rattle.cutting.specs.Pieces.{levelPieces}
+use Rattle.cutting.specs.laws.Rule.{by-pieces, runs-cut, empty-run}
+use Rattle.codec.specs.RunPixels.{runPixels, runTotal, runsFrom, runExtent, levelRuns, cutLevels, runWords, runBody}
 use Rattle.codec.specs.Codec.{taken}
 use Rattle.codec.specs.laws.RunReading.{length-runPixels}
 use Rattle.units.specs.laws.Words.{words-before}
@@ -21,20 +23,11 @@ data Pieces : ℕ → List ℕ → Type 0 where
   whole : {n : ℕ} → Pieces n (n ∷ [])
   more : {n k m : ℕ} {ws : List ℕ} → n ≡ k + m → 0 < m → Pieces m ws → Pieces n (k ∷ (0 ∷ ws))
 
-pieces-step : (n : ℕ) (rest : List ℕ) (short : Bool) → leb n 32767 ≡ short → (32767 < n → Pieces (n - 32767) rest)
-    → Pieces n (cond short (n ∷ []) (32767 ∷ (0 ∷ rest)))
-pieces-step n rest true e ih = whole
-pieces-step n rest false e ih =
-    let h : 32767 < n = leb-false n 32767 e in
-    more {n = n} {k = 32767} {m = n - 32767} (omega arith) (omega arith) (ih h)
-
-pieces : (most n : ℕ) → Pieces n (levelPieces most n)
-unfolding levelPieces
-pieces zero n = whole
-pieces (suc most) n = pieces-step n (levelPieces most (n - 32767)) (leb n 32767) refl (λ g. pieces most (n - 32767))
-
-run-pieces : (n : ℕ) → Pieces n (levelPieces n n)
-run-pieces n = pieces n n
+run-pieces : (n : ℕ) → Pieces n (levelPieces n)
+run-pieces =
+    by-pieces (λ n. Pieces n (levelPieces n))
+    (λ n h. rw (runs-cut .up-to-32767 n h) whole)
+    (λ n h ih. rw (runs-cut .above-32767 n h) (more {n = n} {k = 32767} {m = n - 32767} (omega arith) (omega arith) ih))
 
 -- The runs of a row of 0 and 1 from a run of level v on, which holds n pixels so far.
 data Turns : ℕ → ℕ → List ℕ → List ℕ → Type 0 where
@@ -75,9 +68,9 @@ pieces-pixels (more {n = n} {k = k} {m = m} {ws = ws} e z p) v r h =
     rw (f, pieces-pixels p v r h, e, ← replicate-append-replicate k m v, append-assoc)
 
 turns-pixels : {v n : ℕ} {row runs : List ℕ} → Turns v n row runs → runPixels v (cutLevels runs) ≡ replicate n v ++ row
-unfolding cutLevels levelPieces runPixels
+unfolding cutLevels runPixels
 turns-pixels (ends-off {n = n}) = pieces-pixels (run-pieces n) 0 [] (omega arith)
-turns-pixels (ends-on {n = n}) = pieces-pixels (run-pieces n) 1 (0 ∷ []) (omega arith)
+turns-pixels (ends-on {n = n}) = rw empty-run (pieces-pixels (run-pieces n) 1 (0 ∷ []) (omega arith))
 turns-pixels (same {v = v} {n = n} {row = row} t) = turns-pixels t ∙ one-more n v row
 turns-pixels (turn {v = v} {w = w} {n = n} {row = row} {runs = runs} h e t) =
     pieces-pixels (run-pieces n) v (cutLevels runs) h ∙ rw (← e, turns-pixels t)
@@ -91,7 +84,7 @@ cut-odd : (runs : List ℕ) → length (cutLevels runs) % 2 ≡ length runs % 2
 unfolding cutLevels
 cut-odd [] = refl
 cut-odd (n ∷ runs) =
-    rw (length-append (levelPieces n n) (cutLevels runs)) (omega (arith, pieces-odd (run-pieces n), cut-odd runs))
+    rw (length-append (levelPieces n) (cutLevels runs)) (omega (arith, pieces-odd (run-pieces n), cut-odd runs))
 
 turns-odd : {v n : ℕ} {row runs : List ℕ} → Turns v n row runs → length runs % 2 ≡ 1 - v
 turns-odd ends-off = refl
@@ -137,19 +130,19 @@ turns-taken : {v n : ℕ} {row runs : List ℕ} → Turns v n row runs → (left
 unfolding cutLevels
 turns-taken (ends-off {n = n}) left rest used e =
     let q : left ≡ n = omega arith in
-    rw (q, append-nil (levelPieces n n)) (pieces-end (run-pieces n) rest used)
+    rw (q, append-nil (levelPieces n)) (pieces-end (run-pieces n) rest used)
 turns-taken (ends-on {n = n}) left rest used e =
     let z : left - n ≡ 0 = omega arith in
-    rw (append-nil (levelPieces 0 0), append-assoc (levelPieces n n) (levelPieces 0 0) rest)
-    (pieces-passed (run-pieces n) 1 left (levelPieces 0 0 ++ rest) used (omega arith) (omega arith) (λ a b. omega arith)
-    ∙ rw z (pieces-end (run-pieces 0) rest (used + wordBytes (length (levelPieces n n))))
-    ∙ both-used used (levelPieces n n) (levelPieces 0 0))
+    rw (append-nil (levelPieces 0), append-assoc (levelPieces n) (levelPieces 0) rest)
+    (pieces-passed (run-pieces n) 1 left (levelPieces 0 ++ rest) used (omega arith) (omega arith) (λ a b. omega arith)
+    ∙ rw z (pieces-end (run-pieces 0) rest (used + wordBytes (length (levelPieces n))))
+    ∙ both-used used (levelPieces n) (levelPieces 0))
 turns-taken (same {n = n} t) left rest used e = turns-taken t left rest used (omega arith)
 turns-taken (turn {v = v} {w = w} {n = n} {row = row} {runs = runs} h q t) left rest used e =
-    rw (append-assoc (levelPieces n n) (cutLevels runs) rest)
+    rw (append-assoc (levelPieces n) (cutLevels runs) rest)
     (pieces-passed (run-pieces n) v left (cutLevels runs ++ rest) used h (omega arith) (λ a b. omega arith)
-    ∙ rw (← q) (turns-taken t (left - n) rest (used + wordBytes (length (levelPieces n n))) (omega arith))
-    ∙ both-used used (levelPieces n n) (cutLevels runs))
+    ∙ rw (← q) (turns-taken t (left - n) rest (used + wordBytes (length (levelPieces n))) (omega arith))
+    ∙ both-used used (levelPieces n) (cutLevels runs))
 
 -- a row of 0 and 1
 module _ (row : List ℕ) (levels : AllBelow 2 row) where

@@ -8,29 +8,18 @@ use native.Mathlib.Omega.{arith}
 use lib.ListN.{length, drop, length-append, drop-of-length-le}
 use lib.Seq.{drop-cons}
 use lib.Dec.{eqb, leb, eqb·suc-zero}
-use Rattle.codec.specs.RunPixels.{levelRuns, levelPieces, cutLevels, runWords}
+use Rattle.cutting.specs.Pieces.{levelPieces}
+use Rattle.cutting.specs.laws.Rule.{by-pieces, runs-cut, empty-run}
+use Rattle.codec.specs.RunPixels.{levelRuns, cutLevels, runWords}
 use Rattle.codec.specs.Leading.{leading}
 use Rattle.codec.specs.laws.Leading.{run-behind, run-size}
-use Rattle.codec.specs.laws.Pieces.{pieces, short, long, size}
-
-as-pieces : (m n : ℕ) → levelPieces m n ≡ pieces (λ (k : ℕ). k ∷ []) (32767 ∷ (0 ∷ [])) m n
-unfolding levelPieces pieces
-as-pieces zero n = refl
-as-pieces (suc m) n = ap (λ (r : List ℕ). cond (leb n 32767) (n ∷ []) (32767 ∷ (0 ∷ r))) (as-pieces m (n - 32767))
-
-pub pieces-short : (n : ℕ) → n ≤ 32767 → levelPieces n n ≡ n ∷ []
-pieces-short n h = as-pieces n n ∙ short (λ (k : ℕ). k ∷ []) (32767 ∷ (0 ∷ [])) n h
-
-pub pieces-long : (n : ℕ) → 32767 < n → levelPieces n n ≡ 32767 ∷ (0 ∷ levelPieces (n - 32767) (n - 32767))
-pieces-long n h =
-    as-pieces n n ∙ long (λ (k : ℕ). k ∷ []) (32767 ∷ (0 ∷ [])) n h
-    ∙ ap (λ (r : List ℕ). 32767 ∷ (0 ∷ r)) (sym (as-pieces (n - 32767) (n - 32767)))
 
 -- a run of pixels has no more words than pixels
-length-pieces : (n : ℕ) → 1 ≤ n → length (levelPieces n n) ≤ n
-length-pieces n h =
-    let s = size (λ (k : ℕ). k ∷ []) (32767 ∷ (0 ∷ [])) 1 (λ k. omega arith) (omega arith) n n h (omega arith) in
-    omega (arith, ap length (as-pieces n n), s)
+length-pieces : (n : ℕ) → 1 ≤ n → length (levelPieces n) ≤ n
+length-pieces =
+    by-pieces (λ n. 1 ≤ n → length (levelPieces n) ≤ n)
+    (λ n h l. omega (arith, ap length (runs-cut .up-to-32767 n h)))
+    (λ n h ih l. let i = ih (omega arith) in omega (arith, ap length (runs-cut .above-32767 n h)))
 
 -- What is left where a run of level v starts: that run and those behind it, or only the last empty OFF run.
 unfoldable pub nextRuns : ℕ → List ℕ → List ℕ
@@ -59,12 +48,12 @@ level-run v n (x ∷ r) = go (eqb x v) (level-run v (n + 1) r)
     go false ih = rw (add-zero n)
 
 -- the first run of a row, and one that starts at pixel i
-pub first-run : (row : List ℕ) (e : ℕ) → e ≡ leading 0 row → runWords row ≡ levelPieces e e ++ wordsFrom row 1 e
+pub first-run : (row : List ℕ) (e : ℕ) → e ≡ leading 0 row → runWords row ≡ levelPieces e ++ wordsFrom row 1 e
 unfolding cutLevels
 first-run row e h = rw (level-run 0 0 row, zero-add (leading 0 row), h)
 
 pub next-run : (row : List ℕ) (i e v : ℕ) → i < length row → e ≡ i + 1 + leading v (drop (i + 1) row)
-    → wordsFrom row v i ≡ levelPieces (e - i) (e - i) ++ wordsFrom row (1 - v) e
+    → wordsFrom row v i ≡ levelPieces (e - i) ++ wordsFrom row (1 - v) e
 unfolding nextRuns cutLevels
 next-run row i e v h g =
     rw (drop-cons row i 0 h, level-run v 1 (drop (suc i) row), run-behind row i e v g, run-size row i e v g)
@@ -75,16 +64,16 @@ unfolding nextRuns cutLevels
 no-run-on row i h = rw (drop-of-length-le row {i = i} h)
 
 pub no-run-off : (row : List ℕ) (i : ℕ) → length row ≤ i → wordsFrom row 0 i ≡ 0 ∷ []
-unfolding nextRuns cutLevels levelPieces
-no-run-off row i h = rw (drop-of-length-le row {i = i} h)
+unfolding nextRuns cutLevels
+no-run-off row i h = rw (drop-of-length-le row {i = i} h, empty-run)
 
 length-runs : (v n : ℕ) (l : List ℕ) → 1 ≤ n → length (cutLevels (levelRuns v n l)) ≤ n + length l + 1
-unfolding levelRuns cutLevels levelPieces
+unfolding levelRuns cutLevels
 length-runs v n [] h = go (eqb v 0)
   where
     go : (b : Bool) → length (cutLevels (cond b (n ∷ []) (n ∷ (0 ∷ [])))) ≤ n + 0 + 1
-    go true = omega (arith, length-append (levelPieces n n) [], length-pieces n h)
-    go false = omega (arith, length-append (levelPieces n n) (0 ∷ []), length-pieces n h)
+    go true = omega (arith, length-append (levelPieces n) [], length-pieces n h)
+    go false = rw empty-run (omega (arith, length-append (levelPieces n) (0 ∷ []), length-pieces n h))
 length-runs v n (x ∷ r) h = go (eqb x v) (length-runs v (n + 1) r (omega arith)) (length-runs (1 - v) 1 r (omega arith))
   where
     go : (b : Bool) → length (cutLevels (levelRuns v (n + 1) r)) ≤ n + 1 + length r + 1
@@ -92,13 +81,13 @@ length-runs v n (x ∷ r) h = go (eqb x v) (length-runs v (n + 1) r (omega arith
         → length (cutLevels (cond b (levelRuns v (n + 1) r) (n ∷ levelRuns (1 - v) 1 r))) ≤ n + suc (length r) + 1
     go true same other = omega arith
     go false same other =
-        omega (arith, length-append (levelPieces n n) (cutLevels (levelRuns (1 - v) 1 r)), length-pieces n h)
+        omega (arith, length-append (levelPieces n) (cutLevels (levelRuns (1 - v) 1 r)), length-pieces n h)
 
 pub length-runWords : (row : List ℕ) → length (runWords row) ≤ length row + 2
-unfolding levelRuns cutLevels levelPieces
-length-runWords [] = omega arith
+unfolding levelRuns cutLevels
+length-runWords [] = rw empty-run (omega arith)
 length-runWords (x ∷ r) = go (eqb x 0)
   where
     go : (b : Bool) → length (cutLevels (cond b (levelRuns 0 (0 + 1) r) (0 ∷ levelRuns (1 - 0) 1 r))) ≤ suc (length r) + 2
     go true = omega (arith, length-runs 0 (0 + 1) r (omega arith))
-    go false = omega (arith, length-runs (1 - 0) 1 r (omega arith))
+    go false = rw empty-run (omega (arith, length-runs (1 - 0) 1 r (omega arith)))

@@ -8,7 +8,9 @@ use native.Mathlib.Omega.{arith}
 use borrow.Author.Tests.{leb-true, leb-false, eqb-true, eqb-false}
 use lib.ListN.{length, getD}
 use lib.Dec.{eqb, leb}
-use Rattle.codec.specs.RunPixels.{levelRuns, levelPieces, cutLevels, runWords}
+use Rattle.cutting.specs.Pieces.{levelPieces}
+use Rattle.cutting.specs.laws.Rule.{by-pieces, runs-cut, empty-run}
+use Rattle.codec.specs.RunPixels.{levelRuns, cutLevels, runWords}
 use Rattle.codec.specs.ZeroRuns.{ZeroRuns, AllZeroRuns}
 
 -- Words behind a word p: none is above 32,767, and one that is 0 and not the last stands behind 32,767 and before more pixels.
@@ -35,45 +37,38 @@ starting : (n : ℕ) (r : List ℕ) (p : ℕ) → 0 < n → n ≤ 32767 → Need
 starting n r p h l c = (h, (l, (λ z g. absurd (omega arith), c)))
 
 -- the pieces of a run of n pixels, and what follows it
-pieces-needed : (r : List ℕ) → ((q : ℕ) → Needed q r) → (most n : ℕ) → 0 < n → n ≤ 32767 * suc most → (p : ℕ) → Starting p (levelPieces most n ++ r)
-unfolding levelPieces
-pieces-needed r c zero n h l p = starting n r p h (omega arith) (c n)
-pieces-needed r c (suc most) n h l p = go (leb n 32767) refl (λ g. pieces-needed r c most (n - 32767) (omega arith) (omega arith) 0)
-  where
-    go : (b : Bool) → leb n 32767 ≡ b → (32767 < n → Starting 0 (levelPieces most (n - 32767) ++ r))
-        → Starting p (cond b (n ∷ []) (32767 ∷ (0 ∷ levelPieces most (n - 32767))) ++ r)
-    go true e ih = starting n r p h (leb-true n 32767 e) (c n)
-    go false e ih =
-        let i = ih (leb-false n 32767 e) in
-        starting 32767 (0 ∷ (levelPieces most (n - 32767) ++ r)) p (omega arith) (omega arith) (zero-le, (λ z s. (refl, i .0), i .1))
-
-run-needed : (r : List ℕ) (n : ℕ) → 0 < n → ((q : ℕ) → Needed q r) → (p : ℕ) → Starting p (levelPieces n n ++ r)
-run-needed r n h c p = pieces-needed r c n n h (omega arith) p
+run-needed : (r : List ℕ) → ((q : ℕ) → Needed q r) → (n : ℕ) → 0 < n → (p : ℕ) → Starting p (levelPieces n ++ r)
+run-needed r c =
+    by-pieces (λ n. 0 < n → (p : ℕ) → Starting p (levelPieces n ++ r))
+    (λ n h g p. rw (runs-cut .up-to-32767 n h) (starting n r p g h (c n)))
+    (λ n h ih g p. let i = ih (omega arith) 0 in
+    rw (runs-cut .above-32767 n h)
+    (starting 32767 (0 ∷ (levelPieces (n - 32767) ++ r)) p (omega arith) (omega arith) (zero-le, (λ z s. (refl, i .0), i .1))))
 
 -- the runs of a row, from one that holds n pixels of level v so far
 runs-needed : (v n : ℕ) (row : List ℕ) → 0 < n → (p : ℕ) → Starting p (cutLevels (levelRuns v n row))
-unfolding levelRuns cutLevels levelPieces
+unfolding levelRuns cutLevels
 runs-needed v n [] h p = go (eqb v 0)
   where
     go : (b : Bool) → Starting p (cutLevels (cond b (n ∷ []) (n ∷ (0 ∷ []))))
-    go true = run-needed [] n h (λ q. tt) p
-    go false = run-needed (0 ∷ []) n h (λ q. (zero-le, (λ z s. absurd (omega arith), tt))) p
+    go true = run-needed [] (λ q. tt) n h p
+    go false = rw empty-run (run-needed (0 ∷ []) (λ q. (zero-le, (λ z s. absurd (omega arith), tt))) n h p)
 runs-needed v n (x ∷ r) h p = go (eqb x v) (runs-needed v (n + 1) r (omega arith) p) (λ q. runs-needed (1 - v) 1 r (omega arith) q .1)
   where
     go : (b : Bool) → Starting p (cutLevels (levelRuns v (n + 1) r)) → ((q : ℕ) → Needed q (cutLevels (levelRuns (1 - v) 1 r)))
         → Starting p (cutLevels (cond b (levelRuns v (n + 1) r) (n ∷ levelRuns (1 - v) 1 r)))
     go true same other = same
-    go false same other = run-needed (cutLevels (levelRuns (1 - v) 1 r)) n h other p
+    go false same other = run-needed (cutLevels (levelRuns (1 - v) 1 r)) other n h p
 
 -- all words of a row: a first word of 0 stands before pixels, or alone
 pub row-needed : (row : List ℕ) → Needed 32767 (runWords row)
-unfolding levelRuns cutLevels levelPieces
-row-needed [] = (zero-le, (λ z s. absurd (omega arith), tt))
+unfolding levelRuns cutLevels
+row-needed [] = rw empty-run (zero-le, (λ z s. absurd (omega arith), tt))
 row-needed (x ∷ r) = go (eqb x 0)
   where
     go : (b : Bool) → Needed 32767 (cutLevels (cond b (levelRuns 0 (0 + 1) r) (0 ∷ levelRuns (1 - 0) 1 r)))
     go true = runs-needed 0 1 r (omega arith) 32767 .1
-    go false = let i = runs-needed 1 1 r (omega arith) 0 in (zero-le, (λ z s. (refl, i .0), i .1))
+    go false = let i = runs-needed 1 1 r (omega arith) 0 in rw empty-run (zero-le, (λ z s. (refl, i .0), i .1))
 
 -- the last of a word p and the words behind it
 abbrev final : ℕ → List ℕ → ℕ
@@ -92,15 +87,11 @@ last-is : (ws : List ℕ) → getD ws (length ws - 1) 0 ≡ final 0 ws
 last-is [] = refl
 last-is (w ∷ r) = let e : suc (length r) - 1 ≡ length r = omega arith in ap (λ (k : ℕ). getD (w ∷ r) k 0) e ∙ final-at w r
 
-pieces-final : (most n p : ℕ) → 0 < n → 0 < final p (levelPieces most n)
-unfolding levelPieces
-pieces-final zero n p h = h
-pieces-final (suc most) n p h = go (leb n 32767) refl (λ g. pieces-final most (n - 32767) 0 (omega arith))
-  where
-    go : (b : Bool) → leb n 32767 ≡ b → (32767 < n → 0 < final 0 (levelPieces most (n - 32767)))
-        → 0 < final p (cond b (n ∷ []) (32767 ∷ (0 ∷ levelPieces most (n - 32767))))
-    go true e ih = h
-    go false e ih = ih (leb-false n 32767 e)
+pieces-final : (n : ℕ) → 0 < n → (p : ℕ) → 0 < final p (levelPieces n)
+pieces-final =
+    by-pieces (λ n. 0 < n → (p : ℕ) → 0 < final p (levelPieces n))
+    (λ n h g p. rw (runs-cut .up-to-32767 n h) g)
+    (λ n h ih g p. rw (runs-cut .above-32767 n h) (ih (omega arith) 0))
 
 -- the last word is 0 only where the last pixel is 1
 abbrev Levels : List ℕ → Type 0
@@ -108,13 +99,13 @@ Levels row = (k : ℕ) → k < length row → getD row k 0 ≤ 1
 
 runs-final : (v n : ℕ) (row : List ℕ) → 0 < n → v ≤ 1 → Levels row → (p : ℕ) → final p (cutLevels (levelRuns v n row)) ≡ 0
     → getD (v ∷ row) (length row) 0 ≡ 1
-unfolding levelRuns cutLevels levelPieces
+unfolding levelRuns cutLevels
 runs-final v n [] h l b p = go (eqb v 0) refl
   where
     go : (t : Bool) → eqb v 0 ≡ t → final p (cutLevels (cond t (n ∷ []) (n ∷ (0 ∷ [])))) ≡ 0 → v ≡ 1
     go true e z =
-        absurd (let g : 0 < final p (levelPieces n n) = pieces-final n n p h in
-        omega (arith, ap (final p) (append-nil (levelPieces n n))))
+        absurd (let g : 0 < final p (levelPieces n) = pieces-final n h p in
+        omega (arith, ap (final p) (append-nil (levelPieces n))))
     go false e z = let d : v ≡ 0 → ⊥ = eqb-false v 0 e in omega arith
 runs-final v n (x ∷ r) h l b p =
     let t : Levels r = λ k g. b (suc k) (omega arith) in
@@ -130,12 +121,12 @@ runs-final v n (x ∷ r) h l b p =
         let a : x ≤ 1 = b 0 (omega arith) in
         let w : x ≡ 1 - v = omega arith in
         ap (λ (y : ℕ). getD (y ∷ r) (length r) 0) w
-        ∙ other (final p (levelPieces n n)) (sym (final-append p (levelPieces n n) (cutLevels (levelRuns (1 - v) 1 r))) ∙ z)
+        ∙ other (final p (levelPieces n)) (sym (final-append p (levelPieces n) (cutLevels (levelRuns (1 - v) 1 r))) ∙ z)
 
 -- the same of the whole row, with what its first word says
 ends : (x : ℕ) (r : List ℕ) → Levels (x ∷ r)
     → (getD (runWords (x ∷ r)) 0 0 ≡ 0 → x ≡ 1) × (final 0 (runWords (x ∷ r)) ≡ 0 → getD (x ∷ r) (length r) 0 ≡ 1)
-unfolding levelRuns cutLevels levelPieces
+unfolding levelRuns cutLevels
 ends x r b = go (eqb x 0) refl
   where
     t : Levels r
@@ -150,7 +141,7 @@ ends x r b = go (eqb x 0) refl
         let d : x ≡ 0 → ⊥ = eqb-false x 0 e in
         let a : x ≤ 1 = b 0 (omega arith) in
         let w : x ≡ 1 = omega arith in
-        (λ z. w, λ z. ap (λ (y : ℕ). getD (y ∷ r) (length r) 0) w ∙ runs-final 1 1 r (omega arith) (omega arith) t 0 z)
+        rw empty-run (λ z. w, λ z. ap (λ (y : ℕ). getD (y ∷ r) (length r) 0) w ∙ runs-final 1 1 r (omega arith) (omega arith) t 0 z)
 
 between-at : (ws : List ℕ) → Needed 32767 ws → (j : ℕ) → 0 < j → j + 1 < length ws → getD ws j 0 ≡ 0
     → (getD ws (j - 1) 0 ≡ 32767) × (0 < getD ws (j + 1) 0)

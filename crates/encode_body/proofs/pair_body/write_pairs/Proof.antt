@@ -6,7 +6,8 @@ use mathlib.Core.Path.{_≡_, refl, ap}
 use Rattle.codec.specs.laws.PairWriting.{next-pair, no-pair, length-pairWords}
 use Rattle.units.specs.laws.Stores.{length-bytes}
 use Rattle.codec.specs.laws.Leading.{leading-within}
-use Rattle.codec.specs.PairPixels.{pairBody, valuePieces, pairWords}
+use Rattle.cutting.specs.Pieces.{valuePieces}
+use Rattle.codec.specs.PairPixels.{pairBody, pairWords}
 use Rattle.encode_body.specs.laws.Left.{Left, left-start, left-more, left-none}
 use Rattle.units.specs.Over.{over}
 use Rattle.encode_body.proofs.pair_body.write_pairs.Statement.{statement}
@@ -33,7 +34,7 @@ put-pairs-requires c κs =
     let e = c .before .run-end .result in
     let r = t .before .before .before .before .args .row .now in
     let n = next-pair r (l .i) e (t .loop-test .taken) (c .before .run-end .ensures) in
-    let k = length-append (valuePieces (getD r (l .i) 0) (e - l .i) (e - l .i)) (pairWords (drop e r)) in
+    let k = length-append (valuePieces (getD r (l .i) 0) (e - l .i)) (pairWords (drop e r)) in
     omega (arith, ap length n, k, l .inv .2 .ends, length-pairWords r)
 
 loop-again : tie.Need-loop-again Inv-loop μ-loop
@@ -48,7 +49,7 @@ loop-again c =
     let n = next-pair r (l .i) e (t .loop-test .taken) (u .run-end .ensures) in (
       omega (arith, leading-within r (l .i + 1) v (omega arith)),
       omega arith,
-      left-more (valuePieces v (e - l .i) (e - l .i)) (pairWords (drop e r)) n (l .inv .2) (p .ensures),
+      left-more (valuePieces v (e - l .i)) (pairWords (drop e r)) n (l .inv .2) (p .ensures),
     )
 
 returns : tie.Need-returns Inv-loop μ-loop

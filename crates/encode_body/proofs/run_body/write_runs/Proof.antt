@@ -10,7 +10,8 @@ use Rattle.encode_body.specs.laws.Left.{left-start, Left, left-word, lef
 use Rattle.codec.specs.laws.RunWriting.{wordsFrom, first-run, next-run, no-run-on, no-run-off, length-runWords}
 use Rattle.codec.specs.Leading.{leading}
 use Rattle.codec.specs.laws.Leading.{leading-within}
-use Rattle.codec.specs.RunPixels.{levelPieces, runWords, runBody}
+use Rattle.cutting.specs.Pieces.{levelPieces}
+use Rattle.codec.specs.RunPixels.{runWords, runBody}
 use Rattle.units.specs.Words.{wordsToBytes}
 use Rattle.units.specs.Over.{over}
 use Rattle.encode_body.proofs.run_body.write_runs.Statement.{statement}
@@ -42,7 +43,7 @@ started c =
     let a = u .before .before .before .args in
     let e = u .run-end .result in
     let h : e ≡ leading 0 (a .row .now) = omega arith in
-    left-more (levelPieces e e) (wordsFrom (a .row .now) 1 e) (first-run (a .row .now) e h)
+    left-more (levelPieces e) (wordsFrom (a .row .now) 1 e) (first-run (a .row .now) e h)
     (left-start (a .out .now) (runWords (a .row .now))) (p .put-run .ensures)
 
 put-run-requires : tie.Need-put-run-requires Inv-loop μ-loop
@@ -51,7 +52,7 @@ put-run-requires c κs =
     let r = s .before .before .before .args .row .now in
     let e : s .run-end .result ≡ leading 0 r = omega arith in
     let f = ap length (first-run r (s .run-end .result) e) in
-    omega (arith, length-append (levelPieces (s .run-end .result) (s .run-end .result)) (wordsFrom r 1 (s .run-end .result)), f, length-runWords r)
+    omega (arith, length-append (levelPieces (s .run-end .result)) (wordsFrom r 1 (s .run-end .result)), f, length-runWords r)
 
 loop-holds : tie.Need-loop-holds Inv-loop μ-loop
 loop-holds c =
@@ -67,7 +68,7 @@ put-run-requires-2 c κs =
     let s = t .before .before in
     let r = pixels s in
     let n = next-run r (l .i) e (l .level) (t .loop-test .taken) (c .before .run-end2 .ensures) in
-    omega (arith, ap length n, length-append (levelPieces (e - l .i) (e - l .i)) (wordsFrom r (1 - l .level) e), l .inv .3 .ends, started s .ends, length-runWords r)
+    omega (arith, ap length n, length-append (levelPieces (e - l .i)) (wordsFrom r (1 - l .level) e), l .inv .3 .ends, started s .ends, length-runWords r)
 
 loop-again : tie.Need-loop-again Inv-loop μ-loop
 loop-again c =
@@ -81,7 +82,7 @@ loop-again c =
       omega (arith, leading-within r (l .i + 1) (l .level) (omega arith)),
       omega arith,
       omega arith,
-      left-more (levelPieces (e - l .i) (e - l .i)) (wordsFrom r (1 - l .level) e) n (l .inv .3) (p .ensures),
+      left-more (levelPieces (e - l .i)) (wordsFrom r (1 - l .level) e) n (l .inv .3) (p .ensures),
     )
 
 returns : tie.Need-returns Inv-loop μ-loop

@@ -1,0 +1,4 @@
+pub mod Pieces
+pub mod Rule
+pub mod Cases
+pub mod laws
