@@ -60,6 +60,9 @@ CASES = [
     ('a proof among definitions', 'apart', 'a proof outside', lambda t: put(t / 'crates/layout/specs/Chain.antt', 'endOf r = start r (r .nol)', 'endOf r = rw start r (r .nol)')),
     ('a promise that cites a law', 'apart', 'cites fill-law', lambda t: (add_function(t, 'ghost use Rattle.slices.specs.laws.Painting.{fill-law};\n' + PLAIN + KEEPS.replace('≡ v', '≡ fill-law v') + LEAVES + BODY))),
     ('a stray factor', 'factors', '512 * k', lambda t: add_function(t, 'fn stray(k: usize) -> usize {\n    512 * k\n}\n')),
+    ('a run divided', 'undivided', 'n / 32767', lambda t: put(t / 'crates/encode_body/src/run_body.rt', 'let mut left = n;', 'let mut left = n / 32767;')),
+    ('a run divided in the definition', 'undivided', 'n % 32767', lambda t: put(t / 'crates/cutting/specs/Pieces.antt', 'cond (leb n 32767) (n ∷ [])', 'cond (leb n 32767) (n % 32767 ∷ [])')),
+    ('no definition of the cutting', 'undivided', 'no sources of cutting', lambda t: shutil.rmtree(t / 'crates/cutting/specs')),
     ('a crate without edits', 'attacked', 'fields: no must-fail', lambda t: shutil.rmtree(t / 'crates/fields/must-fail')),
     ('an exported function without edits', 'attacked', 'layout: no must-fail', lambda t: (
         shutil.rmtree(t / 'crates/layout/must-fail'),

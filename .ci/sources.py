@@ -1,7 +1,7 @@
 #!/usr/bin/env python3
 """Looks at the source texts: what a public function promises, what has to be believed, and where counts are converted.
 
-    sources.py promises | apart | factors | attacked
+    sources.py promises | apart | factors | undivided | attacked
 """
 import pathlib
 import re
@@ -12,6 +12,8 @@ HEAD = re.compile(r'\bpub\s+(?:extern\s+"C"\s+)?fn\s+(\w+)\s*(?:<[^>]*>)?\s*\(')
 CLAUSE = re.compile(r'\s*(requires|ensures|ghost|decreases)\b\s*(\w*)\s*\{')
 PROOF = re.compile(r'(?<![\w-])(refl|rw|simp|omega|search|cc|absurd|subst)(?![\w-])')
 FACTOR = re.compile(r'[*/] *(2|256|512)(?![0-9_])|(?<![0-9_.])(2|256|512) *[*]')
+# Whether a number is odd is no division.
+DIVISION = re.compile(r'/|>>|%(?! *2(?![0-9_]))')
 # The scale of a color from a byte to 16 bits is no count.
 SCALE = re.compile(r'scaled c = 256 \* c')
 
@@ -125,6 +127,19 @@ def factors():
                 yield f'{path.relative_to(ROOT)}:{number}: {line.strip()}'
 
 
+def undivided():
+    """Runs are cut without division: there is none in the definition of it, nor in the code of the writer."""
+    paths = sorted(ROOT.glob('crates/cutting/specs/*.antt')) + sorted(ROOT.glob('crates/encode_*/src/**/*.rt'))
+    for name in ('cutting', 'encode_body'):
+        if not any(path.parts[-3] == name for path in paths):
+            yield f'no sources of {name}'
+    for path in paths:
+        text = bare(path.read_text(), '//' if path.suffix == '.rt' else '--')
+        for number, line in enumerate(text.splitlines(), 1):
+            if DIVISION.search(line):
+                yield f'{path.relative_to(ROOT)}:{number}: {line.strip()}'
+
+
 def attacked():
     """Every crate with a public function has an edit that must be refused."""
     for crate in sorted({path.parts[1] for path, _ in public_functions()}):
@@ -133,7 +148,7 @@ def attacked():
 
 
 def main(names):
-    checks = {'promises': promises, 'apart': apart, 'factors': factors, 'attacked': attacked}
+    checks = {'promises': promises, 'apart': apart, 'factors': factors, 'undivided': undivided, 'attacked': attacked}
     bad = [fault for name in names for fault in checks[name]()]
     print('\n'.join(bad) if bad else f'{" ".join(names)}: ok')
     return 1 if bad or not names else 0

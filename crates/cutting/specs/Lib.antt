@@ -1,4 +1,4 @@
 pub mod Pieces
 pub mod Rule
-pub mod Cases
+pub mod Table
 pub mod laws

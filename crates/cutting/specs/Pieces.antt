@@ -2,7 +2,7 @@
 -- type 9." docs/CUTTING.md leads through this crate; Rule.antt says the same by two laws.
 use Prim.Native.Nat.{ℕ, zero, suc, _-_}
 use mathlib.Core.Bool.{cond}
-use mathlib.Core.List.{List, [], _∷_}
+use mathlib.Core.List.{List, [], _∷_, _++_}
 use lib.Dec.{leb}
 
 -- The pieces of a run of n pixels: full ones are taken off one by one. `bound` is there for the recursion to end and no more.
@@ -15,20 +15,16 @@ piecesWithin (suc bound) n =
 unfoldable pub pieces : ℕ → List ℕ
 pieces n = piecesWithin n n
 
--- type 9: between two pieces stands an empty run of the other level
-unfoldable pub levelWords : List ℕ → List ℕ
-levelWords [] = []
-levelWords (n ∷ []) = n ∷ []
-levelWords (n ∷ (m ∷ r)) = n ∷ (0 ∷ levelWords (m ∷ r))
+-- The words of pieces, where `piece k` is those of one piece of k pixels and `between` stands between two.
+unfoldable pub joined : (ℕ → List ℕ) → List ℕ → List ℕ → List ℕ
+joined piece between [] = []
+joined piece between (n ∷ []) = piece n
+joined piece between (n ∷ (m ∷ r)) = piece n ++ (between ++ joined piece between (m ∷ r))
 
--- type 10: the value stands before each piece
-unfoldable pub valueWords : ℕ → List ℕ → List ℕ
-valueWords v [] = []
-valueWords v (n ∷ r) = v ∷ (n ∷ valueWords v r)
-
--- the words of a run of n pixels, in type 9 of either level and in type 10 of value v
+-- Type 9, a run of either level: a piece is a word, and an empty run of the other level stands between two.
 unfoldable pub levelPieces : ℕ → List ℕ
-levelPieces n = levelWords (pieces n)
+levelPieces n = joined (λ k. k ∷ []) (0 ∷ []) (pieces n)
 
+-- Type 10, a run of value v: a piece is a pair, and nothing stands between.
 unfoldable pub valuePieces : ℕ → ℕ → List ℕ
-valuePieces v n = valueWords v (pieces n)
+valuePieces v n = joined (λ k. v ∷ (k ∷ [])) [] (pieces n)

@@ -1,3 +1,3 @@
 pub mod Rule
 pub mod Pieces
-pub mod Cases
+pub mod Table

@@ -28,7 +28,8 @@ pub fn write_pairs(row: &[u16], out: &mut [u8]) -> Bytes
     Bytes(at)
 }
 
-// One run of n pixels, in pieces, each with its value. Answers the place after it.
+// One run of n pixels: above 32,767 a full piece, then the pieces of the rest; up to 32,767 one piece. Each has the value before it
+// (docs/CUTTING.md). Answers the place after it.
 fn put_pairs(out: &mut [u8], at: usize, v: u16, n: usize) -> usize
     requires { ⌜ at + wordBytes (length (valuePieces v n)) < 2 ^ 64 ⌝ }
     ensures { λ r. ⌜ r ≡ at + wordBytes (length (valuePieces v n)) ⌝ }

@@ -34,7 +34,8 @@ pub fn write_runs(row: &[u16], out: &mut [u8]) -> Bytes
     Bytes(put_next(out, at, 0))
 }
 
-// One run of n pixels, in pieces with empty runs of the other level between them. Answers the place after it.
+// One run of n pixels: above 32,767 a full piece, an empty run of the other level, then the pieces of the rest; up to 32,767 one
+// piece (docs/CUTTING.md). Answers the place after it.
 fn put_run(out: &mut [u8], at: usize, n: usize) -> usize
     requires { ⌜ at + wordBytes (length (levelPieces n)) < 2 ^ 64 ⌝ }
     ensures { λ r. ⌜ r ≡ at + wordBytes (length (levelPieces n)) ⌝ }

@@ -2,7 +2,9 @@
 //! They show that a mode passes a right program and catches a wrong one; nothing more, since
 //! they are the model.
 
+use crate::miscut;
 use crate::misread::{self, misread, Misreading};
+use crate::model::writer::{self, Cutting};
 use crate::model::{long, probe, sheet};
 use std::io::{self, Read, Write};
 use std::time::Duration;
@@ -20,6 +22,8 @@ enum Change {
     After(fn(&mut Vec<u8>)),
     /// To the lines that the listing program reads.
     Misread(Misreading),
+    /// To the words that the writing program makes of a row.
+    Miscut(Cutting),
     /// To a call of the turning program that is not refused, or is.
     Turned(fn(&mut Call)),
     Refused(fn(&mut Call)),
@@ -35,6 +39,10 @@ const fn after(name: &'static str, change: fn(&mut Vec<u8>)) -> Defect {
 
 const fn misreads(name: &'static str, change: Misreading) -> Defect {
     Defect { name, change: Change::Misread(change) }
+}
+
+const fn miscuts(name: &'static str, change: Cutting) -> Defect {
+    Defect { name, change: Change::Miscut(change) }
 }
 
 const fn turned(name: &'static str, change: fn(&mut Call)) -> Defect {
@@ -103,7 +111,7 @@ const LENT: [u16; 1] = [65_535];
 /// Some pixels of a sheet that was read before.
 const LAST_SHEET: [u16; 5] = [1, 1, 2, 3, 5];
 
-const WRITE: [Defect; 7] = [
+const WRITE: [Defect; 13] = [
     // Numbers narrowed to 16 bits before they are looked at.
     before("type-word", |input| keep(input, 2, 0)),
     before("scn-byte", |input| keep(input, 17, 0)),
@@ -126,6 +134,12 @@ const WRITE: [Defect; 7] = [
             out[start + 537] = 1;
         }
     }),
+    miscuts("cuts-at-32768", miscut::AT_32768),
+    miscuts("cuts-nothing", miscut::NOTHING),
+    miscuts("rest-of-0", miscut::REST_OF_0),
+    miscuts("rest-first", miscut::REST_FIRST),
+    miscuts("zero-run-missing", miscut::ZERO_RUN_MISSING),
+    miscuts("zero-run-in-pairs", miscut::ZERO_RUN_IN_PAIRS),
     after("refuses-all", |out| *out = b"refused 16\n".to_vec()),
 ];
 
@@ -355,13 +369,16 @@ pub fn play(name: &str) -> bool {
     }
     let mut output = match change {
         Some(Change::Misread(wrong)) => misread_listing(&input, *wrong),
+        Some(Change::Miscut(wrong)) => {
+            probe::write_with(&input, |order| writer::write_by(wrong, order))
+        }
         _ => program(&input),
     };
     match change {
         Some(Change::After(change)) => change(&mut output),
         Some(Change::Turned(change)) => calls(&input, &mut output, "turned ", *change),
         Some(Change::Refused(change)) => calls(&input, &mut output, "refused ", *change),
-        Some(Change::Before(_) | Change::Misread(_)) | None => {}
+        Some(Change::Before(_) | Change::Misread(_) | Change::Miscut(_)) | None => {}
     }
     // Whoever closed the pipe wants no more.
     let _ = io::stdout().write_all(&output);

@@ -7,6 +7,7 @@ mod calls;
 mod edges;
 mod fake;
 mod gen;
+mod miscut;
 mod misread;
 mod mode;
 mod model;

@@ -1,9 +1,7 @@
 -- The former cuttings have the two laws of the cutting rule too, so they are the same.
 use Prim.Native.Nat.{ℕ, _+_}
 use mathlib.Core.Path.{_≡_, refl, ap}
-use mathlib.Core.Bool.{cond}
-use mathlib.Core.List.{List, [], _∷_, _++_}
-use lib.Dec.{eqb}
+use mathlib.Core.List.{List, [], _∷_}
 use Rattle.units.specs.Words.{wordsToBytes}
 use Rattle.cutting.specs.Pieces.{levelPieces, valuePieces}
 use Rattle.cutting.specs.laws.Rule.{runs-cut, pairs-cut, only-rule, bounded-cut}

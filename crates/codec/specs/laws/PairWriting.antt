@@ -1,13 +1,13 @@
 -- Type 10: the pieces of a run, the pairs from where one starts, and how many words there are.
-use Prim.Native.Nat.{ℕ, zero, suc, _+_, _-_, _*_, _≤_, _<_}
-use mathlib.Core.Path.{_≡_, refl, sym, _∙_, ap}
+use Prim.Native.Nat.{ℕ, suc, _+_, _-_, _*_, _≤_, _<_}
+use mathlib.Core.Path.{_≡_, sym, _∙_, ap}
 use mathlib.Core.Bool.{Bool, true, false, cond}
 use mathlib.Core.List.{List, [], _∷_, _++_, append-nil}
 use native.Mathlib.Nat.{add-zero}
 use native.Mathlib.Omega.{arith}
 use lib.ListN.{length, getD, drop, length-append, drop-of-length-le}
 use lib.Seq.{drop-cons}
-use lib.Dec.{eqb, leb}
+use lib.Dec.{eqb}
 use Rattle.cutting.specs.Pieces.{valuePieces}
 use Rattle.cutting.specs.laws.Rule.{by-pieces, pairs-cut}
 use Rattle.codec.specs.PairPixels.{valueRuns, pairWords}

@@ -1,12 +1,12 @@
 -- Type 10: the pairs of a row, read back.
-use Prim.Native.Nat.{ℕ, zero, suc, _+_, _-_, _*_, _%_, _≤_, _<_}
+use Prim.Native.Nat.{ℕ, suc, _+_, _-_, _*_, _%_, _<_}
 use mathlib.Core.Path.{_≡_, refl, sym, ap, _∙_}
 use mathlib.Core.Bool.{Bool, true, false, cond}
 use mathlib.Core.List.{List, [], _∷_, _++_, append-assoc, append-nil}
 use native.Mathlib.Omega.{arith}
-use borrow.Author.Tests.{le-ltb, eq-eqb, ne-eqb, leb-true, leb-false, eqb-true}
+use borrow.Author.Tests.{le-ltb, eq-eqb, ne-eqb, eqb-true}
 use lib.ListN.{length, replicate, length-append, length-replicate, replicate-append-replicate}
-use lib.Dec.{eqb, leb}
+use lib.Dec.{eqb}
 use Rattle.units.specs.Counts.{wordBytes}
 use Rattle.units.specs.Words.{words}
 use Rattle.cutting.specs.Pieces.{valuePieces}

@@ -1,13 +1,13 @@
 -- Type 9: the pieces of a run, the runs from where one starts, and how many words there are.
 use Prim.Native.Nat.{ℕ, zero, suc, _+_, _-_, _≤_, _<_}
-use mathlib.Core.Path.{_≡_, refl, sym, _∙_, ap}
+use mathlib.Core.Path.{_≡_, _∙_, ap}
 use mathlib.Core.Bool.{Bool, true, false, cond}
 use mathlib.Core.List.{List, [], _∷_, _++_}
 use native.Mathlib.Nat.{add-zero, zero-add}
 use native.Mathlib.Omega.{arith}
 use lib.ListN.{length, drop, length-append, drop-of-length-le}
 use lib.Seq.{drop-cons}
-use lib.Dec.{eqb, leb, eqb·suc-zero}
+use lib.Dec.{eqb, eqb·suc-zero}
 use Rattle.cutting.specs.Pieces.{levelPieces}
 use Rattle.cutting.specs.laws.Rule.{by-pieces, runs-cut, empty-run}
 use Rattle.codec.specs.RunPixels.{levelRuns, cutLevels, runWords}

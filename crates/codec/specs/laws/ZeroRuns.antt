@@ -1,17 +1,17 @@
 -- Type 9: the zero runs of a body, word by word.
-use Prim.Native.Nat.{ℕ, zero, suc, _+_, _-_, _*_, _≤_, _<_, zero-le}
+use Prim.Native.Nat.{ℕ, zero, suc, _+_, _-_, _≤_, _<_, zero-le}
 use mathlib.Core.Path.{_≡_, refl, sym, _∙_, ap}
 use mathlib.Core.Bool.{Bool, true, false, cond}
 use mathlib.Core.List.{List, [], _∷_, _++_, append-nil}
 use native.Mathlib.Numerals.{add-one}
 use native.Mathlib.Omega.{arith}
-use borrow.Author.Tests.{leb-true, leb-false, eqb-true, eqb-false}
+use borrow.Author.Tests.{eqb-true, eqb-false}
 use lib.ListN.{length, getD}
-use lib.Dec.{eqb, leb}
+use lib.Dec.{eqb}
 use Rattle.cutting.specs.Pieces.{levelPieces}
 use Rattle.cutting.specs.laws.Rule.{by-pieces, runs-cut, empty-run}
 use Rattle.codec.specs.RunPixels.{levelRuns, cutLevels, runWords}
-use Rattle.codec.specs.ZeroRuns.{ZeroRuns, AllZeroRuns}
+use Rattle.codec.specs.ZeroRuns.{AllZeroRuns}
 
 -- Words behind a word p: none is above 32,767, and one that is 0 and not the last stands behind 32,767 and before more pixels.
 abbrev pub Needed : ℕ → List ℕ → Type 0

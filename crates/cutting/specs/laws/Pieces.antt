@@ -1,11 +1,11 @@
 -- What follows from the two laws.
 use Prim.Native.Nat.{ℕ, zero, suc, _+_, _-_, _*_, _≤_, _<_, zero-le}
-use mathlib.Core.Path.{_≡_, refl, _∙_, ap}
+use mathlib.Core.Path.{_≡_, _∙_, ap}
 use mathlib.Core.List.{List, [], _∷_, _++_, foldr}
 use native.Mathlib.Omega.{arith}
 use lib.ListN.{getD, replicate}
 use Rattle.cutting.specs.Pieces.{pieces}
-use Rattle.cutting.specs.Rule.{PiecesOf, AllPieces}
+use Rattle.cutting.specs.Rule.{AllPieces}
 use Rattle.cutting.specs.laws.Rule.{by-pieces, sizes-cut}
 
 total-is : (n : ℕ) → foldr _+_ 0 (pieces n) ≡ n
@@ -34,4 +34,9 @@ rest-is n (suc full) rest e l h =
     sizes-cut .above-32767 n (omega arith) ∙ ap (λ (r : List ℕ). 32767 ∷ r) (rest-is (n - 32767) full rest (omega arith) l h)
 
 pub all-pieces : AllPieces
-all-pieces n = record { total = total-is n; at-most = most-is n; rest-last = rest-is n }
+all-pieces n =
+    record {
+      total = total-is n;
+      at-most = λ j. omega (arith, most-is n j);
+      rest-last = λ full rest e l h. rest-is n full rest e (omega arith) (omega arith);
+    }

@@ -6,7 +6,7 @@ use mathlib.Core.List.{List, [], _∷_, _++_}
 use native.Mathlib.Omega.{arith}
 use borrow.Author.Tests.{leb-true, leb-false, le-leb, lt-leb}
 use lib.Dec.{leb}
-use Rattle.cutting.specs.Pieces.{piecesWithin, pieces, levelWords, valueWords, levelPieces, valuePieces}
+use Rattle.cutting.specs.Pieces.{piecesWithin, pieces, joined, levelPieces, valuePieces}
 use Rattle.cutting.specs.Rule.{CutBy, CuttingRule, OnlyRule}
 
 -- What holds of runs up to 32,767, and of a longer run where it holds of the rest, holds of every run.
@@ -20,6 +20,12 @@ by-pieces P short long n = within n n (omega arith)
     within : (bound n : ℕ) → n ≤ bound → P n
     within zero n h = short n (omega arith)
     within (suc bound) n h = step n (leb n 32767) refl (λ g. within bound (n - 32767) (omega arith))
+
+pub only-rule : OnlyRule
+only-rule piece between f g a b =
+    by-pieces (λ n. f n ≡ g n)
+    (λ n h. a .up-to-32767 n (omega arith) ∙ sym (b .up-to-32767 n (omega arith)))
+    (λ n h ih. a .above-32767 n (omega arith) ∙ ap (λ (r : List ℕ). piece 32767 ++ (between ++ r)) ih ∙ sym (b .above-32767 n (omega arith)))
 
 -- A function that takes off at most so many full pieces has the two laws where the bound is the run's own length.
 module _ (piece : ℕ → List ℕ) (between : List ℕ) (within : ℕ → ℕ → List ℕ) (none : (n : ℕ) → within 0 n ≡ piece n)
@@ -46,7 +52,7 @@ module _ (piece : ℕ → List ℕ) (between : List ℕ) (within : ℕ → ℕ �
           long n h a ∙ ap (λ (r : List ℕ). piece 32767 ++ (between ++ r)) (ih a b (omega arith) (omega arith)) ∙ sym (long n h b)
 
   pub bounded-cut : CutBy piece between (λ n. within n n)
-  bounded-cut = record { up-to-32767 = λ n h. short n h n; above-32767 = above }
+  bounded-cut = record { up-to-32767 = λ n h. short n (omega arith) n; above-32767 = λ n h. above n (omega arith) }
     where
       above : (n : ℕ) → 32767 < n → within n n ≡ piece 32767 ++ (between ++ within (n - 32767) (n - 32767))
       above zero h = absurd (omega arith)
@@ -58,39 +64,35 @@ pub sizes-cut : CutBy (λ k. k ∷ []) [] pieces
 unfolding pieces piecesWithin
 sizes-cut = bounded-cut (λ k. k ∷ []) [] piecesWithin (λ n. refl) (λ bound n. refl)
 
--- what follows a full piece starts with a piece, so that a zero run stands between
-full-first : (m : ℕ) → levelWords (32767 ∷ pieces m) ≡ 32767 ∷ (0 ∷ levelWords (pieces m))
-unfolding levelWords
-full-first =
-    by-pieces (λ m. levelWords (32767 ∷ pieces m) ≡ 32767 ∷ (0 ∷ levelWords (pieces m)))
-    (λ m h. rw (sizes-cut .up-to-32767 m h))
-    (λ m h ih. rw (sizes-cut .above-32767 m h))
+-- the words of pieces, whatever a piece is and stands between
+module _ (piece : ℕ → List ℕ) (between : List ℕ) where
+  -- what follows a full piece starts with a piece
+  full-first : (m : ℕ) → joined piece between (32767 ∷ pieces m) ≡ piece 32767 ++ (between ++ joined piece between (pieces m))
+  unfolding joined
+  full-first =
+      by-pieces (λ m. joined piece between (32767 ∷ pieces m) ≡ piece 32767 ++ (between ++ joined piece between (pieces m)))
+      (λ m h. rw (sizes-cut .up-to-32767 m h))
+      (λ m h ih. rw (sizes-cut .above-32767 m h))
+
+  joined-cut : CutBy piece between (λ n. joined piece between (pieces n))
+  unfolding joined
+  joined-cut =
+      record {
+        up-to-32767 = λ n h. rw (sizes-cut .up-to-32767 n h);
+        above-32767 = λ n h. ap (joined piece between) (sizes-cut .above-32767 n h) ∙ full-first (n - 32767);
+      }
 
 pub runs-cut : CutBy (λ k. k ∷ []) (0 ∷ []) levelPieces
-unfolding levelPieces levelWords
-runs-cut =
-    record {
-      up-to-32767 = λ n h. rw (sizes-cut .up-to-32767 n h);
-      above-32767 = λ n h. ap levelWords (sizes-cut .above-32767 n h) ∙ full-first (n - 32767);
-    }
+unfolding levelPieces
+runs-cut = joined-cut (λ k. k ∷ []) (0 ∷ [])
 
 -- a run of no pixels is one piece of 0
 pub empty-run : levelPieces 0 ≡ 0 ∷ []
 empty-run = runs-cut .up-to-32767 0 zero-le
 
 pub pairs-cut : (v : ℕ) → CutBy (λ k. v ∷ (k ∷ [])) [] (valuePieces v)
-unfolding valuePieces valueWords
-pairs-cut v =
-    record {
-      up-to-32767 = λ n h. rw (sizes-cut .up-to-32767 n h);
-      above-32767 = λ n h. ap (valueWords v) (sizes-cut .above-32767 n h);
-    }
+unfolding valuePieces
+pairs-cut v = joined-cut (λ k. v ∷ (k ∷ [])) []
 
 pub cutting-rule : CuttingRule
 cutting-rule = record { sizes = sizes-cut; runs = runs-cut; pairs = pairs-cut }
-
-pub only-rule : OnlyRule
-only-rule piece between f g a b =
-    by-pieces (λ n. f n ≡ g n)
-    (λ n h. a .up-to-32767 n h ∙ sym (b .up-to-32767 n h))
-    (λ n h ih. a .above-32767 n h ∙ ap (λ (r : List ℕ). piece 32767 ++ (between ++ r)) ih ∙ sym (b .above-32767 n h))

@@ -5,7 +5,7 @@ use mathlib.Core.List.{List, [], _∷_}
 use native.Mathlib.Omega.{arith}
 use lib.ListN.{replicate}
 use borrow.Author.Tests.{eq-eqb}
-use Rattle.cutting.specs.Pieces.{piecesWithin, pieces, levelWords, levelPieces}
+use Rattle.cutting.specs.Pieces.{piecesWithin, pieces, joined, levelPieces}
 use Rattle.codec.specs.RunPixels.{levelRuns, cutLevels}
 use Rattle.edges.specs.Written.{Off32768, On32768}
 
@@ -17,7 +17,7 @@ counted v k (suc n) =
     (counted v (k + 1) n ∙ ap (λ (m : ℕ). levelRuns v m []) (let e : k + 1 + n ≡ k + suc n = omega arith in e))
 
 pub off-32768 : Off32768
-unfolding levelRuns cutLevels piecesWithin pieces levelWords levelPieces
+unfolding levelRuns cutLevels piecesWithin pieces joined levelPieces
 off-32768 = ap cutLevels (counted 0 0 32768)
 
 on-runs : (n : ℕ) → levelRuns 0 0 (replicate (suc n) 1) ≡ 0 ∷ levelRuns 1 (1 + n) []
@@ -25,5 +25,5 @@ unfolding levelRuns
 on-runs n = ap (λ (r : List ℕ). 0 ∷ r) (counted 1 1 n)
 
 pub on-32768 : On32768
-unfolding levelRuns cutLevels piecesWithin pieces levelWords levelPieces
+unfolding levelRuns cutLevels piecesWithin pieces joined levelPieces
 on-32768 = ap cutLevels (on-runs 32767)

@@ -5,6 +5,7 @@ use super::long;
 use super::sheet::{self, Sheet};
 use super::turn;
 use super::writer::{self, Order};
+use super::Rejection;
 use std::fmt::Write;
 
 pub const HEADER_LIMIT: usize = 140_000;
@@ -89,6 +90,11 @@ pub fn list(sheet: &Sheet) -> Vec<u8> {
 }
 
 pub fn write(input: &[u8]) -> Vec<u8> {
+    write_with(input, writer::write)
+}
+
+/// The same with a writer that may be wrong.
+pub fn write_with(input: &[u8], writer: impl Fn(&Order) -> Result<Vec<u8>, Rejection>) -> Vec<u8> {
     if input.len() > WRITE_LIMIT {
         return b"too long\n".to_vec();
     }
@@ -105,7 +111,7 @@ pub fn write(input: &[u8]) -> Vec<u8> {
     }
     let (table, pixels) = input[40..40 + table + 2 * count].split_at(table);
     let pixels = pixels_of(pixels);
-    let written = writer::write(&Order {
+    let written = writer(&Order {
         kind: number(0),
         ppl: number(1),
         nol: number(2),

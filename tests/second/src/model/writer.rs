@@ -20,8 +20,25 @@ const LONGEST_RUN: usize = 32_767;
 /// W counts line number and offset besides the body.
 const LONGEST_BODY_WORDS: usize = 65_533;
 
+/// The words of a row in types 9 and 10.
+pub struct Cutting {
+    pub levels: fn(&[u16]) -> Vec<u16>,
+    pub pairs: fn(&[u16]) -> Vec<u16>,
+}
+
+/// As the papers say.
+pub const RIGHT: Cutting = Cutting { levels: |row| levels(row, cut), pairs: |row| pairs(row, cut) };
+
+/// The pieces of a run.
+pub type Pieces = fn(usize) -> Vec<u16>;
+
 /// The file's bytes, from the first to the written length.
 pub fn write(order: &Order) -> Result<Vec<u8>, Rejection> {
+    write_by(&RIGHT, order)
+}
+
+/// The same by a writer that may cut runs in another way.
+pub fn write_by(cutting: &Cutting, order: &Order) -> Result<Vec<u8>, Rejection> {
     check_fields(order)?;
     let (ppl, nol) = (order.ppl as usize, order.nol as usize);
     if (order.pixels.len() as u64) < u64::from(order.ppl) * u64::from(order.nol) {
@@ -36,7 +53,7 @@ pub fn write(order: &Order) -> Result<Vec<u8>, Rejection> {
     if pixels.iter().any(|&pixel| pixel > most) {
         return Err(26);
     }
-    let bodies: Vec<Vec<u8>> = pixels.chunks(ppl).map(|row| body(order, row)).collect();
+    let bodies: Vec<Vec<u8>> = pixels.chunks(ppl).map(|row| body(cutting, order, row)).collect();
     if order.scn == 1 && bodies.iter().any(|body| body.len() / 2 > LONGEST_BODY_WORDS) {
         return Err(27);
     }
@@ -98,7 +115,7 @@ fn header(order: &Order) -> Vec<u8> {
     file
 }
 
-fn body(order: &Order, row: &[u16]) -> Vec<u8> {
+fn body(cutting: &Cutting, order: &Order, row: &[u16]) -> Vec<u8> {
     match order.kind {
         2 => {
             let mut bytes: Vec<u8> = row.iter().map(|&pixel| pixel as u8).collect();
@@ -108,8 +125,8 @@ fn body(order: &Order, row: &[u16]) -> Vec<u8> {
             bytes
         }
         3 => bytes(row),
-        9 => bytes(&levels(row)),
-        _ => bytes(&pairs(row)),
+        9 => bytes(&(cutting.levels)(row)),
+        _ => bytes(&(cutting.pairs)(row)),
     }
 }
 
@@ -130,7 +147,7 @@ fn runs(row: &[u16]) -> Vec<(u16, usize)> {
 }
 
 /// A run in pieces: full ones, then the rest, if any.
-fn cut(length: usize) -> Vec<u16> {
+pub fn cut(length: usize) -> Vec<u16> {
     let mut list = vec![LONGEST_RUN as u16; length / LONGEST_RUN];
     if length % LONGEST_RUN > 0 {
         list.push((length % LONGEST_RUN) as u16);
@@ -139,7 +156,7 @@ fn cut(length: usize) -> Vec<u16> {
 }
 
 /// Type 9: OFF and ON in turn, with a zero run of the other level between pieces.
-fn levels(row: &[u16]) -> Vec<u16> {
+pub fn levels(row: &[u16], cut: Pieces) -> Vec<u16> {
     let mut list = Vec::new();
     for (level, length) in runs(row) {
         for piece in cut(length) {
@@ -157,7 +174,7 @@ fn levels(row: &[u16]) -> Vec<u16> {
 }
 
 /// Type 10: value, then count.
-fn pairs(row: &[u16]) -> Vec<u16> {
+pub fn pairs(row: &[u16], cut: Pieces) -> Vec<u16> {
     runs(row)
         .iter()
         .flat_map(|&(value, length)| cut(length).into_iter().flat_map(move |n| [value, n]))
