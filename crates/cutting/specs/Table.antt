@@ -1,22 +1,21 @@
--- The cutting rule at work, one table under one statement. A run of 0 is one piece of 0; the writer has such runs only first and last in
--- a line of type 9.
+-- The cutting rule at work: one table under one statement.
 use Prim.Native.Nat.{ℕ}
 use mathlib.Core.Path.{_≡_}
 use mathlib.Core.List.{List, [], _∷_, map}
 use Rattle.cutting.specs.Pieces.{levelPieces, valuePieces}
 
--- a run's length, its words in type 9, and in type 10
+-- how many pixels a run has, its words in type 9, and in type 10
 pub record Case : Type 0 where
-  pub length : ℕ
+  pub pixels : ℕ
   pub runs : List ℕ
   pub pairs : List ℕ
 
 unfoldable pub of : ℕ → List ℕ → List ℕ → Case
-of n runs pairs = record { length = n; runs = runs; pairs = pairs }
+of n runs pairs = record { pixels = n; runs = runs; pairs = pairs }
 
 -- a run of value v, by the definitions
 unfoldable pub computed : ℕ → Case → Case
-computed v c = of (c .length) (levelPieces (c .length)) (valuePieces v (c .length))
+computed v c = of (c .pixels) (levelPieces (c .pixels)) (valuePieces v (c .pixels))
 
 unfoldable pub cases : ℕ → List Case
 cases v =

@@ -2,10 +2,12 @@
 //! the right ones pass and that each wrong one is found; nothing more, since they are the model.
 
 use super::Calls;
+use crate::miscut;
 use crate::misread::{self, misread, Misreading};
 use crate::model::c::{
     self, Turn, Write, COLOR_ANSWER, HEADER_ANSWER, RASTER_ANSWER, SHORT_ANSWER, WRITE_ANSWER,
 };
+use crate::model::writer::Cutting;
 use crate::model::{header, long, probe, sheet, turn};
 use std::slice::{from_raw_parts, from_raw_parts_mut};
 use std::sync::{Mutex, OnceLock};
@@ -35,6 +37,8 @@ enum Change {
     Write(Writing),
     /// To the lines that are read.
     Misread(Misreading),
+    /// To the words that are written for a row.
+    Miscut(Cutting),
     /// After a right reading of such files, to the byte behind the sheet where no more is lent.
     Behind(fn(&[u8]) -> bool),
     /// After a right function, to one byte of a buffer of this name or of its guards, told by
@@ -65,7 +69,7 @@ pub const OF_PAIRS: [(&str, &str); 13] = [
     ("row-not-moved", "not read by its own header and body"),
 ];
 
-pub const DEFECTS: [Defect; 74] = [
+pub const DEFECTS: [Defect; 80] = [
     defect(RIGHT, "", Change::None),
     // 29 after another number, too early, too late.
     defect(
@@ -634,6 +638,12 @@ pub const DEFECTS: [Defect; 74] = [
             number => number,
         }),
     ),
+    defect("cuts-at-32768", "ingr_write: ", Change::Miscut(miscut::AT_32768)),
+    defect("cuts-nothing", "ingr_write: ", Change::Miscut(miscut::NOTHING)),
+    defect("rest-of-0", "ingr_write: ", Change::Miscut(miscut::REST_OF_0)),
+    defect("rest-first", "ingr_write: ", Change::Miscut(miscut::REST_FIRST)),
+    defect("zero-run-missing", "ingr_write: ", Change::Miscut(miscut::ZERO_RUN_MISSING)),
+    defect("zero-run-in-pairs", "ingr_write: ", Change::Miscut(miscut::ZERO_RUN_IN_PAIRS)),
     defect(
         "runs-on",
         "runs on",
@@ -909,7 +919,6 @@ unsafe extern "C" fn write(
     answer: *mut u8,
     len: usize,
 ) -> u32 {
-    let call = if let Change::Write(call) = played() { *call } else { c::write };
     let given = Write {
         kind,
         ppl,
@@ -920,7 +929,12 @@ unsafe extern "C" fn write(
         table: from_raw_parts(table, table_len),
         pixels: from_raw_parts(pixels, n),
     };
-    let result = call(&given, from_raw_parts_mut(out, out_len), from_raw_parts_mut(answer, len));
+    let (place, numbers) = (from_raw_parts_mut(out, out_len), from_raw_parts_mut(answer, len));
+    let result = match played() {
+        Change::Write(call) => call(&given, place, numbers),
+        Change::Miscut(wrong) => c::write_by(wrong, &given, place, numbers),
+        _ => c::write(&given, place, numbers),
+    };
     touch("table", table, table_len);
     touch("written", pixels, n);
     touch("output", out, out_len);

@@ -3,7 +3,7 @@
 use super::header::{self, Resolution};
 use super::sheet::{self, Sheet};
 use super::turn;
-use super::writer::{self, Order};
+use super::writer::{self, Cutting, Order};
 use super::Rejection;
 
 /// Bytes of the numbers that each function answers with.
@@ -120,13 +120,19 @@ pub struct Write<'a> {
 }
 
 pub fn write(given: &Write, out: &mut [u8], answer: &mut [u8]) -> u32 {
+    write_by(&writer::RIGHT, given, out, answer)
+}
+
+/// The same by a writer that may cut runs in another way.
+pub fn write_by(cutting: &Cutting, given: &Write, out: &mut [u8], answer: &mut [u8]) -> u32 {
     if answer.len() < WRITE_ANSWER {
         return SHORT_ANSWER;
     }
     let Write { kind, ppl, nol, slo, scn, drs, table, pixels } = *given;
     let drs = (drs % 65_536) as u16 as i16;
     let room = out.len();
-    match writer::write(&Order { kind, ppl, nol, slo, scn, drs, table, pixels, room }) {
+    let order = Order { kind, ppl, nol, slo, scn, drs, table, pixels, room };
+    match writer::write_by(cutting, &order) {
         Err(number) => number,
         Ok(file) => {
             out[..file.len()].copy_from_slice(&file);
