@@ -1,6 +1,7 @@
 pub mod Lawful
 pub mod Former
 pub mod Leading
+pub mod OneRun
 pub mod PairReading
 pub mod PairWriting
 pub mod RoundTrip

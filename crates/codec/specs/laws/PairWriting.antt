@@ -1,4 +1,4 @@
--- Type 10: the pieces of a run, the pairs from where one starts, and how many words there are.
+-- Type 10: the pairs from where a run starts, and how many words there are.
 use Prim.Native.Nat.{ℕ, suc, _+_, _-_, _*_, _≤_, _<_}
 use mathlib.Core.Path.{_≡_, sym, _∙_, ap}
 use mathlib.Core.Bool.{Bool, true, false, cond}

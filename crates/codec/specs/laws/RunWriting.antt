@@ -1,4 +1,4 @@
--- Type 9: the pieces of a run, the runs from where one starts, and how many words there are.
+-- Type 9: the runs from where one starts, and how many words there are.
 use Prim.Native.Nat.{ℕ, zero, suc, _+_, _-_, _≤_, _<_}
 use mathlib.Core.Path.{_≡_, _∙_, ap}
 use mathlib.Core.Bool.{Bool, true, false, cond}
