@@ -5,7 +5,6 @@ pub mod RunPixels
 pub mod PairPixels
 pub mod Leading
 pub mod Former
-pub mod OneRun
 pub mod Table
 pub mod ZeroRuns
 pub mod laws

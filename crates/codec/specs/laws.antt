@@ -1,7 +1,6 @@
 pub mod Lawful
 pub mod Former
 pub mod Leading
-pub mod OneRun
 pub mod PairReading
 pub mod PairWriting
 pub mod RoundTrip
