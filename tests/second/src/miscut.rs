@@ -1,5 +1,5 @@
-//! Writers that cut long runs wrongly, for the stand-ins of the writing program. All but what is wrong
-//! is the model's.
+//! Writers that cut long runs wrongly, for the stand-ins of the writing program and of the C functions.
+//! All but what is wrong is the model's.
 
 use crate::model::writer::{cut, levels, pairs, Cutting, Pieces, RIGHT};
 

@@ -36,7 +36,7 @@ rest-is n (suc full) rest e l h =
 pub all-pieces : AllPieces
 all-pieces n =
     record {
-      total = total-is n;
+      total = omega (arith, total-is n);
       at-most = λ j. omega (arith, most-is n j);
       rest-last = λ full rest e l h. rest-is n full rest e (omega arith) (omega arith);
     }
