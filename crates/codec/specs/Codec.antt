@@ -11,21 +11,25 @@ use Rattle.codec.specs.declared.Extent.{Extent}
 pub record Codec : Type 0 where
   pub dataType : ℕ
   -- with a header: the statuses (the paper's marks) that a body can have, in their order, for a row of p pixels: 6 a wrong
-  -- count of words, 7 a total above p, 8 a total below p
+  -- count of words, 10 a spare bit set, 7 a total above p, 8 a total below p
   pub rules : List ℕ → ℕ → List Rule
   -- the pixels of a body, for a row of p
   pub pixels : List ℕ → ℕ → List ℕ
   -- Without a header: what a scanline of p pixels takes of the bytes that are left. Runs or pairs are taken one at a time and
-  -- the first fault counts: 1 the next one runs past the file, 7 the total is above p.
+  -- the first fault counts: 1 the next one runs past the file, 7 the total is above p; both lose the line. 10 does not.
   pub extent : List ℕ → ℕ → Extent
   -- the body that is written of a row, with headers (SCN 1) or without
   pub body : ℕ → List ℕ → List ℕ
   -- the highest pixel that can be written
   pub highest : ℕ
 
--- the line takes n bytes and is good
+-- the line takes n bytes, whatever its status: the chain goes on
+abbrev pub kept : ℕ → ℕ → Extent
+kept s n = record { status = s; lost = false; used = nBytes n }
+
+-- and is good
 abbrev pub taken : ℕ → Extent
-taken n = record { status = 0; lost = false; used = nBytes n }
+taken n = kept 0 n
 
 -- a fault that loses the line and takes nothing
 abbrev pub fault : ℕ → Extent

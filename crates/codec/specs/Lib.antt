@@ -1,4 +1,5 @@
 pub mod Codec
+pub mod PackedPixels
 pub mod BytePixels
 pub mod WordPixels
 pub mod RunPixels

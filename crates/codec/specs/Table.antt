@@ -6,13 +6,14 @@ use lib.Dec.{eqb}
 use Rattle.units.specs.Rules.{Rule, rule}
 use Rattle.codec.specs.declared.Extent.{Extent}
 use Rattle.codec.specs.Codec.{Codec, fault}
+use Rattle.codec.specs.PackedPixels.{packedCodec}
 use Rattle.codec.specs.BytePixels.{byteCodec}
 use Rattle.codec.specs.WordPixels.{wordCodec}
 use Rattle.codec.specs.RunPixels.{runCodec}
 use Rattle.codec.specs.PairPixels.{pairCodec}
 
 abbrev pub codecs : List Codec
-codecs = byteCodec ∷ (wordCodec ∷ (runCodec ∷ (pairCodec ∷ [])))
+codecs = packedCodec ∷ (byteCodec ∷ (wordCodec ∷ (runCodec ∷ (pairCodec ∷ []))))
 
 -- Of any other data type nothing is read or written, and its scanlines have the number of its rejection: no call that is not
 -- rejected comes to it.

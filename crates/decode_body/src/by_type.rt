@@ -13,6 +13,10 @@ use crate::word_pixels::words_extent;
 use crate::word_pixels::words_status;
 use codec::Extent;
 use codec::fault;
+use decode_packed::packed_extent;
+use decode_packed::packed_status;
+use decode_packed::paint_packed;
+use decode_packed::paint_packed_bytes;
 use decode_pairs::paint_pair_bytes;
 use decode_pairs::paint_pairs;
 use decode_pairs::pairs_extent;
@@ -30,6 +34,7 @@ pub fn body_status(dtc: u16, body: &[u8], p: usize) -> u8
     ensures { λ r. ⌜ r ≡ first (bodyRules dtc (now (body .entry)) p) ⌝ }
 {
     match dtc {
+        1 => packed_status(body, p),
         2 => bytes_status(body, p),
         3 => words_status(body, p),
         9 => runs_status(body, p),
@@ -43,6 +48,7 @@ pub fn body_extent(dtc: u16, rest: &[u8], p: usize) -> Extent
     ensures { λ r. ⌜ r ≡ bodyExtent dtc (now (rest .entry)) p ⌝ }
 {
     match dtc {
+        1 => packed_extent(rest, p),
         2 => bytes_extent(rest, p),
         3 => words_extent(rest, p),
         9 => runs_extent(rest, p),
@@ -56,6 +62,7 @@ pub fn paint_body(dtc: u16, body: &[u8], row: &mut [u16])
     ensures { λ _. ⌜ now (row .exit) ≡ over (bodyPixels dtc (now (body .entry)) (length (now (row .entry)))) (now (row .entry)) ⌝ }
 {
     match dtc {
+        1 => paint_packed(body, row),
         2 => widen(body, row),
         3 => load_words(body, row),
         9 => paint_runs(body, row),
@@ -69,6 +76,7 @@ pub fn paint_body_bytes(dtc: u16, body: &[u8], row: &mut [u8])
     ensures { λ _. ⌜ now (row .exit) ≡ over (wordsToBytes (bodyPixels dtc (now (body .entry)) (wordCount (now (row .entry)) .0))) (zeros (length (now (row .entry)))) ⌝ }
 {
     match dtc {
+        1 => paint_packed_bytes(body, row),
         2 => paint_byte_bytes(body, row),
         3 => paint_word_bytes(body, row),
         9 => paint_run_bytes(body, row),

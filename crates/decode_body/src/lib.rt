@@ -1,5 +1,5 @@
-// The bodies of scanlines, read by data type: `by_type` tells them apart. Types 2 and 3 are here, and types 9 and 10 in crates
-// of their own.
+// The bodies of scanlines, read by data type: `by_type` tells them apart. Types 2 and 3 are here, and types 1, 9 and 10 in
+// crates of their own.
 //
 // A body is checked whole before a pixel is stored. Its status is the paper's mark, 0 where it holds a row's pixels. There is one
 // check for a body of known length, within a scanline that has a header, and one for a scanline without a header, which says

@@ -1,9 +1,10 @@
--- "Sheets at the edges", cases 1 to 10, 12 and 13, and lines that start partway: one table under one statement. Each case is a whole
+-- "Sheets at the edges", cases 1 to 10, 12 and 13, lines that start partway, and type 1: one table under one statement. Each case is a whole
 -- file, read through the definitions that the promises of `read_header` and `read_raster` cite.
 use Prim.Native.Nat.{ℕ, _-_}
 use mathlib.Core.Path.{_≡_}
 use mathlib.Core.List.{List, [], _∷_, _++_, map}
 use lib.ListN.{replicate}
+use Rattle.units.specs.Words.{wordsToBytes}
 use Rattle.header.specs.Reading.{headerReading}
 use Rattle.layout.specs.Reading.{rasterReading, pixelsAfter, marksAfter}
 use Rattle.edges.specs.Files.{header, withWord, line, lineFrom, oneLine, bytesFrom, wordsFrom, twoOpen, environ}
@@ -167,6 +168,32 @@ cases =
     one (wordsFrom 10 9 []) 5 blank 1032 ∷
     one (wordsFrom 10 65535 (7 ∷ 8 ∷ [])) 5 blank 1036 ∷
     one (header 2 9 8 1 1 ++ lineFrom 3 2 9 (0 ∷ 0 ∷ [])) 4 blank 1034 ∷
+    -- Type 1, P 8: the row is the word's high byte, which is its second, and the leftmost pixel the highest bit. The low byte is spare.
+    oneGood (bytesFrom 1 0 (0 ∷ 0x92 ∷ [])) (1 ∷ 0 ∷ 0 ∷ 1 ∷ 0 ∷ 0 ∷ 1 ∷ 0 ∷ []) 1034 ∷
+    one (bytesFrom 1 0 (1 ∷ 0x92 ∷ [])) 10 blank 1034 ∷
+    one (bytesFrom 1 0 (0x80 ∷ 0x92 ∷ [])) 10 blank 1034 ∷
+    -- no word, and one too many, with a spare bit set too
+    one (wordsFrom 1 0 []) 6 blank 1032 ∷
+    one (wordsFrom 1 0 (0x9201 ∷ 0 ∷ [])) 6 blank 1036 ∷
+    -- P 16: no bit is spare
+    reads (header 2 1 16 1 1 ++ line 3 1 (wordsToBytes (0x8003 ∷ []))) 0 1 1034 (0 ∷ (7 ∷ (7 ∷ [])))
+    ((1 ∷ replicate 13 0) ++ (1 ∷ 1 ∷ 7 ∷ [])) ∷
+    -- P 17: two words, of which the second holds one pixel
+    reads (header 2 1 17 1 1 ++ line 4 1 (wordsToBytes (0x8001 ∷ 0x8000 ∷ []))) 0 1 1036 (0 ∷ (7 ∷ (7 ∷ [])))
+    ((1 ∷ replicate 14 0) ++ (1 ∷ 1 ∷ [])) ∷
+    reads (header 2 1 17 1 1 ++ line 4 1 (wordsToBytes (0x8001 ∷ 0xc000 ∷ []))) 1 0 1036 (10 ∷ (7 ∷ (7 ∷ []))) (replicate 17 0) ∷
+    reads (header 2 1 17 1 1 ++ line 3 1 (wordsToBytes (0x8001 ∷ []))) 1 0 1034 (6 ∷ (7 ∷ (7 ∷ []))) (replicate 17 0) ∷
+    -- no headers, two lines of a word each. A spare bit set in the first: the chain goes on. No second word: the second line is lost.
+    reads (twoOpen 1 (0x9200 ∷ 0x0100 ∷ [])) 0 2 1028 (0 ∷ (0 ∷ (7 ∷ [])))
+    ((1 ∷ 0 ∷ 0 ∷ 1 ∷ 0 ∷ 0 ∷ 1 ∷ 0 ∷ []) ++ (replicate 7 0 ++ (1 ∷ 7 ∷ []))) ∷
+    reads (twoOpen 1 (0x9201 ∷ 0x0100 ∷ [])) 1 1 1028 (10 ∷ (0 ∷ (7 ∷ []))) (blank ++ (replicate 7 0 ++ (1 ∷ 7 ∷ []))) ∷
+    reads (twoOpen 1 (0x9200 ∷ [])) 1 1 1026 (0 ∷ (1 ∷ (7 ∷ []))) ((1 ∷ 0 ∷ 0 ∷ 1 ∷ 0 ∷ 0 ∷ 1 ∷ 0 ∷ []) ++ (blank ++ (7 ∷ []))) ∷
+    -- an offset of 3 leaves five pixels, one of 8 none and so no word, and one of 9 is beyond the row
+    oneGood (wordsFrom 1 3 (0xa800 ∷ [])) (0 ∷ 0 ∷ 0 ∷ 1 ∷ 0 ∷ 1 ∷ 0 ∷ 1 ∷ []) 1034 ∷
+    one (wordsFrom 1 3 (0xac00 ∷ [])) 10 blank 1034 ∷
+    oneGood (wordsFrom 1 8 []) blank 1032 ∷
+    one (wordsFrom 1 8 (0 ∷ [])) 6 blank 1034 ∷
+    one (wordsFrom 1 9 []) 5 blank 1032 ∷
     []
 
 -- every case is as the definitions give it

@@ -18,6 +18,7 @@ ghost use Rattle.units.specs.Over.{over};
 ghost use Rattle.units.specs.Words.{twoBytes};
 ghost use Rattle.codec.specs.Table.{codecOf, bodyBytes};
 use byte_body::write_bytes;
+use encode_packed::write_packed;
 use pair_body::write_pairs;
 use run_body::write_runs;
 use units::Bytes;
@@ -32,6 +33,7 @@ pub fn write_body(dtc: u16, scn: u8, row: &[u16], out: &mut [u8]) -> Bytes
     ensures { λ r. ⌜ now (out .exit) ≡ over (bodyBytes dtc scn (now (row .entry))) (now (out .entry)) ⌝ }
 {
     match dtc {
+        1 => write_packed(row, out),
         2 => write_bytes(scn, row, out),
         3 => write_words(row, out),
         9 => write_runs(row, out),
@@ -53,6 +55,7 @@ pub fn highest(dtc: u16) -> u16
     ensures { λ r. ⌜ r ≡ codecOf dtc .highest ⌝ }
 {
     match dtc {
+        1 => 1,
         2 => 255,
         3 => 65535,
         9 => 1,

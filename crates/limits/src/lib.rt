@@ -33,6 +33,9 @@ pub fn earlier(a: u16, b: u16) -> u16
 pub fn is_data_type(dtc: u32) -> bool
     ensures { λ r. ⌜ r ≡ isDataType dtc ⌝ }
 {
+    if dtc == 1 {
+        return true;
+    }
     if dtc == 2 {
         return true;
     }

@@ -4,5 +4,4 @@ pub mod Colors
 pub mod Given
 pub mod Head
 pub mod Law
-pub mod Line
 pub mod Rows

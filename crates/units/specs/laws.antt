@@ -1,3 +1,4 @@
+pub mod Below
 pub mod LittleEndian
 pub mod Numbers
 pub mod Over

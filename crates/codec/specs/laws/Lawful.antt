@@ -13,8 +13,11 @@ use Rattle.units.specs.Rules.{first}
 use Rattle.units.specs.Words.{words, wordCount}
 use Rattle.units.specs.laws.Rules.{none-holds}
 use Rattle.units.specs.laws.Words.{length-words, words-taken}
+use Rattle.packing.specs.Packing.{wordBits, packedCount}
+use Rattle.packing.specs.laws.Bits.{length-wordBits}
 use Rattle.codec.specs.declared.Extent.{Extent}
-use Rattle.codec.specs.Codec.{Codec, taken, fault}
+use Rattle.codec.specs.Codec.{Codec, kept, taken, fault}
+use Rattle.codec.specs.PackedPixels.{packedRules, spareSet, packedCodec}
 use Rattle.codec.specs.BytePixels.{byteRules, byteCodec}
 use Rattle.codec.specs.WordPixels.{wordRules, wordCodec}
 use Rattle.codec.specs.RunPixels.{runsFrom, runExtent, runCodec}
@@ -23,7 +26,7 @@ use Rattle.codec.specs.Table.{noCodec, codecOf}
 use Rattle.codec.specs.laws.Table.{every}
 use Rattle.codec.specs.laws.RunReading.{length-runPixels, status-total, extent-within, extent-total}
 use Rattle.codec.specs.laws.PairReading.{length-pairPixels, pairs-fit, pairs-taken}
-use Rattle.codec.specs.laws.Settled.{Settled, bytes-settled, words-settled, runs-settled, pairs-settled}
+use Rattle.codec.specs.laws.Settled.{Settled, packed-settled, bytes-settled, words-settled, runs-settled, pairs-settled}
 
 pub record Lawful (c : Codec) : Type 0 where
   -- a body with the status 0 has as many pixels as the row
@@ -36,15 +39,44 @@ pub record Lawful (c : Codec) : Type 0 where
   -- and what does not run past the file is settled, whatever follows
   pub settled : (r : List ℕ) (p : ℕ) → (c .extent r p ≡ fault 1 → ⊥) → Settled (λ s. c .extent s p) r
 
--- a table of one test without a fault
-one-test : (over : Bool) (n : ℕ) → cond over (fault 1) (taken n) .status ≡ 0 → over ≡ false
-one-test true n h = absurd (omega arith)
-one-test false n h = refl
+-- one test for a fault: what is good, or not lost, has none
+one-test : (over : Bool) (s n : ℕ) → cond over (fault 1) (kept s n) .status ≡ 0 → over ≡ false
+one-test true s n h = absurd (omega arith)
+one-test false s n h = refl
 
--- what is not lost is good, where every fault loses the line
-kept-test : (over : Bool) (n : ℕ) → cond over (fault 1) (taken n) .lost ≡ false → over ≡ false
-kept-test true n h = absurd (false≢true (sym h))
-kept-test false n h = refl
+kept-test : (over : Bool) (s n : ℕ) → cond over (fault 1) (kept s n) .lost ≡ false → over ≡ false
+kept-test true s n h = absurd (false≢true (sym h))
+kept-test false s n h = refl
+
+-- the words of a row hold its pixels
+pixels-full : (b : List ℕ) (p : ℕ) → wordCount b .0 ≡ packedCount p → length (take p (wordBits (words b))) ≡ p
+pixels-full b p n = length-take-le p (wordBits (words b)) (omega (arith, length-wordBits (words b), length-words b))
+
+packed : Lawful packedCodec
+packed =
+    record {
+      full =
+          λ b p h.
+          pixels-full b p
+          (eqb-true (wordCount b .0) (packedCount p) (not-false (eqb (wordCount b .0) (packedCount p)) (none-holds (packedRules b p) tt h .0)));
+      within =
+          λ r p h.
+          let m = packedCount p in
+          let e : ltb (wordCount r .0) m ≡ false = kept-test (ltb (wordCount r .0) m) (status r p) (wordBytes m) h in
+          let n : m ≤ wordCount r .0 = ltb-false (wordCount r .0) m e in
+          rw e (omega arith);
+      taken-full =
+          λ r p h.
+          let m = packedCount p in
+          let e : ltb (wordCount r .0) m ≡ false = one-test (ltb (wordCount r .0) m) (status r p) (wordBytes m) h in
+          let n : m ≤ wordCount r .0 = ltb-false (wordCount r .0) m e in
+          rw e (pixels-full (take (wordBytes m) r) p (omega (arith, length-take-le (wordBytes m) r (omega arith))));
+      good-kept = λ r p h. rw (one-test (ltb (wordCount r .0) (packedCount p)) (status r p) (wordBytes (packedCount p)) h);
+      settled = packed-settled;
+    }
+  where
+    status : List ℕ → ℕ → ℕ
+    status r p = cond (spareSet (take (wordBytes (packedCount p)) r) p) 10 0
 
 bytes : Lawful byteCodec
 bytes =
@@ -56,14 +88,14 @@ bytes =
           length-take-le p b (omega arith);
       within =
           λ r p h.
-          let e : ltb (length r) p ≡ false = kept-test (ltb (length r) p) p h in
+          let e : ltb (length r) p ≡ false = kept-test (ltb (length r) p) 0 p h in
           rw e (ltb-false (length r) p e);
       taken-full =
           λ r p h.
-          let e : ltb (length r) p ≡ false = one-test (ltb (length r) p) p h in
+          let e : ltb (length r) p ≡ false = one-test (ltb (length r) p) 0 p h in
           let n : p ≤ length r = ltb-false (length r) p e in
           rw e (length-take-le p (take p r) (omega (arith, length-take-le p r n)));
-      good-kept = λ r p h. rw (one-test (ltb (length r) p) p h);
+      good-kept = λ r p h. rw (one-test (ltb (length r) p) 0 p h);
       settled = bytes-settled;
     }
 
@@ -77,15 +109,15 @@ word-pixels =
           length-take-le p (words b) (omega (arith, length-words b));
       within =
           λ r p h.
-          let e : ltb (wordCount r .0) p ≡ false = kept-test (ltb (wordCount r .0) p) (wordBytes p) h in
+          let e : ltb (wordCount r .0) p ≡ false = kept-test (ltb (wordCount r .0) p) 0 (wordBytes p) h in
           let n : p ≤ wordCount r .0 = ltb-false (wordCount r .0) p e in
           rw e (omega arith);
       taken-full =
           λ r p h.
-          let e : ltb (wordCount r .0) p ≡ false = one-test (ltb (wordCount r .0) p) (wordBytes p) h in
+          let e : ltb (wordCount r .0) p ≡ false = one-test (ltb (wordCount r .0) p) 0 (wordBytes p) h in
           let n : p ≤ wordCount r .0 = ltb-false (wordCount r .0) p e in
           rw e (ap length (words-taken r p) ∙ length-take-le p (words r) (omega (arith, length-words r)));
-      good-kept = λ r p h. rw (one-test (ltb (wordCount r .0) p) (wordBytes p) h);
+      good-kept = λ r p h. rw (one-test (ltb (wordCount r .0) p) 0 (wordBytes p) h);
       settled = words-settled;
     }
 
@@ -153,4 +185,4 @@ none =
     }
 
 pub lawful : (t : ℕ) → Lawful (codecOf t)
-lawful t = every Lawful t (bytes, (word-pixels, (runs, (pairs, tt)))) none
+lawful t = every Lawful t (packed, (bytes, (word-pixels, (runs, (pairs, tt))))) none

@@ -1,26 +1,31 @@
 -- "Writing a sheet" and "Reading a sheet": a row written as a scanline's body is read back as it was, for each data type.
 use Prim.Native.Nat.{ℕ, suc, _+_, _%_, _≤_, _<_}
-use mathlib.Core.Path.{_≡_, refl, ap₂}
+use mathlib.Core.Path.{_≡_, refl, _∙_, ap, ap₂}
 use mathlib.Core.Bool.{Bool, true, false, cond, _&&_}
 use mathlib.Core.List.{List, [], _∷_, _++_}
 use native.Mathlib.Omega.{arith}
 use borrow.Author.Tests.{le-ltb, eq-eqb, eqb-true, eqb-false}
 use lib.ListN.{length, take, length-append}
-use lib.Seq.{take-append-seam, take-length}
+use lib.Seq.{take-append-seam, take-at, take-length}
 use lib.Dec.{eqb}
+use Rattle.units.specs.Counts.{wordBytes}
 use Rattle.units.specs.LittleEndian.{lowBytes}
 use Rattle.units.specs.Rules.{first}
 use Rattle.units.specs.Words.{words, wordsToBytes, wordCount}
 use Rattle.units.specs.laws.Stores.{length-bytes}
 use Rattle.units.specs.laws.Words.{words-back}
+use Rattle.packing.specs.Packing.{packedCount, packedWords}
+use Rattle.packing.specs.laws.Numbers.{packed-below, length-packed}
+use Rattle.packing.specs.laws.RoundTrip.{row-back, spare-unset}
 use Rattle.codec.specs.Codec.{Codec, taken}
+use Rattle.codec.specs.PackedPixels.{spareSet, packedRules, packedExtent, packedBody, packedCodec}
 use Rattle.codec.specs.BytePixels.{byteRules, bytePixels, byteExtent, byteBody, byteCodec}
 use Rattle.codec.specs.WordPixels.{wordRules, wordExtent, wordBody, wordCodec}
 use Rattle.codec.specs.RunPixels.{runWords, runBody, runCodec}
 use Rattle.codec.specs.PairPixels.{pairTotal, pairRules, pairWords, pairBody, pairCodec}
 use Rattle.codec.specs.Table.{codecOf, isDataType}
 use Rattle.codec.specs.laws.RunReading.{status-good}
-use Rattle.codec.specs.laws.RoundTripWords.{AllBelow, all-append, bytes-below}
+use Rattle.units.specs.laws.Below.{AllBelow, all-append, bytes-below}
 use Rattle.codec.specs.laws.RoundTripRuns.{runs-pixels, runs-total, runs-odd, runs-below, runs-extent}
 use Rattle.codec.specs.laws.RoundTripPairs.{pairs-pixels, pairs-total, pairs-even, pairs-below, pairs-extent}
 use Rattle.codec.specs.laws.Table.{known}
@@ -105,7 +110,7 @@ even-bytes ws = omega (arith, length-bytes ws)
 word-count : (ws : List ℕ) → wordCount (wordsToBytes ws) .0 ≡ length ws
 word-count ws = omega (arith, length-bytes ws)
 
--- types 3, 9 and 10 have one body, with a header and without
+-- types 1, 3, 9 and 10 have one body, with a header and without
 of-words : (c : Codec) (ws row : List ℕ) → ((scn : ℕ) → c .body scn row ≡ wordsToBytes ws)
     → AllBelow 65536 ws
     → first (c .rules (wordsToBytes ws) (length row)) ≡ 0
@@ -121,6 +126,34 @@ of-words c ws row body b s p x = record {
   open-extent = rw (body 0) x;
   open-pixels = rw (body 0) (λ rest. rw (take-append-seam (wordsToBytes ws) rest) p);
 }
+
+-- type 1
+packed-count : (row : List ℕ) → wordCount (packedBody row) .0 ≡ packedCount (length row)
+packed-count row =
+    let n = packedCount (length row) in
+    word-count (packedWords n row) ∙ length-packed n row
+
+packed-unset : (row : List ℕ) → AllBelow 2 row → spareSet (packedBody row) (length row) ≡ false
+packed-unset row b = rw (words-back (packedWords (packedCount (length row)) row)) (spare-unset row b)
+
+packed-status : (row : List ℕ) → AllBelow 2 row → first (packedRules (packedBody row) (length row)) ≡ 0
+packed-status row b =
+    simp (eq-eqb (wordCount (packedBody row) .0) (packedCount (length row)) (packed-count row), packed-unset row b)
+
+packed-extent : (row : List ℕ) → AllBelow 2 row → (rest : List ℕ)
+    → packedExtent (packedBody row ++ rest) (length row) ≡ taken (length (packedBody row))
+packed-extent row b rest =
+    let body = packedBody row in
+    let n = packedCount (length row) in
+    let l : length body ≡ wordBytes n = length-bytes (packedWords n row) ∙ ap wordBytes (length-packed n row) in
+    let f : n ≤ wordCount (body ++ rest) .0 = omega (arith, length-append body rest, l) in
+    rw (le-ltb (wordCount (body ++ rest) .0) n f, take-at body rest (wordBytes n) l, packed-unset row b, l)
+
+pub packed-read-back : (row : List ℕ) → AllBelow 2 row → ReadBack packedCodec row
+packed-read-back row b =
+    let n = packedCount (length row) in
+    of-words packedCodec (packedWords n row) row (λ scn. refl) (packed-below n row)
+    (packed-status row b) (rw (words-back (packedWords n row)) (row-back row b)) (packed-extent row b)
 
 -- type 3
 word-status : (row : List ℕ) → first (wordRules (wordBody row) (length row)) ≡ 0
@@ -167,4 +200,4 @@ ReadsBackBy row c = 0 < length row → AllBelow (suc (c .highest)) row → ReadB
 pub read-back : (t : ℕ) (row : List ℕ) → isDataType t ≡ true → ReadsBackBy row (codecOf t)
 read-back t row h =
     known (ReadsBackBy row) t h
-    ((λ l b. bytes-read-back row b), ((λ l b. words-read-back row b), ((λ l b. runs-read-back row b), ((λ l b. pairs-read-back row b l), tt))))
+    ((λ l b. packed-read-back row b), ((λ l b. bytes-read-back row b), ((λ l b. words-read-back row b), ((λ l b. runs-read-back row b), ((λ l b. pairs-read-back row b l), tt)))))

@@ -14,7 +14,8 @@ use Rattle.cutting.specs.laws.Rule.{by-pieces, pairs-cut}
 use Rattle.codec.specs.PairPixels.{pairPixels, pairTotal, pairsFrom, pairExtent, valueRuns, pairWords, pairBody}
 use Rattle.codec.specs.Codec.{taken}
 use Rattle.units.specs.laws.Words.{words-before}
-use Rattle.codec.specs.laws.RoundTripWords.{AllBelow, all-append, both-used, all-used, one-more}
+use Rattle.units.specs.laws.Below.{AllBelow, all-append}
+use Rattle.codec.specs.laws.RoundTripWords.{both-used, all-used, one-more}
 
 -- The pieces of a run of n pixels of value v: it is one pair, or a full piece and the pieces of what is left.
 data Pieces : ℕ → ℕ → List ℕ → Type 0 where

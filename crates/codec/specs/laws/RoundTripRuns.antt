@@ -15,7 +15,8 @@ use Rattle.codec.specs.RunPixels.{runPixels, runTotal, runsFrom, runExte
 use Rattle.codec.specs.Codec.{taken}
 use Rattle.codec.specs.laws.RunReading.{length-runPixels}
 use Rattle.units.specs.laws.Words.{words-before}
-use Rattle.codec.specs.laws.RoundTripWords.{AllBelow, both-used, all-used, one-more}
+use Rattle.units.specs.laws.Below.{AllBelow}
+use Rattle.codec.specs.laws.RoundTripWords.{both-used, all-used, one-more}
 use Rattle.codec.specs.laws.ZeroRuns.{Needed, row-needed}
 
 -- The pieces of a run of n pixels: it is one word, or a full piece, a run of 0 of the other level, and the pieces of what is left.

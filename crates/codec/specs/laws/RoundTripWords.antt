@@ -1,28 +1,13 @@
--- What the types that are written as words share: numbers below a bound, and what a line takes.
-use Prim.Native.Nat.{ℕ, _+_, _<_}
+-- What the types that are written as words share: what a line takes.
+use Prim.Native.Nat.{ℕ, _+_}
 use mathlib.Core.Path.{_≡_, ap}
-use mathlib.Core.List.{List, [], _∷_, _++_, append-assoc}
+use mathlib.Core.List.{List, _∷_, _++_, append-assoc}
 use native.Mathlib.Omega.{arith}
 use lib.ListN.{length, replicate, length-append, replicate-append-replicate}
 use Rattle.units.specs.Counts.{wordBytes}
 use Rattle.codec.specs.Codec.{taken}
 use Rattle.units.specs.laws.Stores.{length-bytes}
 use Rattle.units.specs.Words.{wordsToBytes}
-
--- every number of a list is below n
-abbrev pub AllBelow : ℕ → List ℕ → Type 0
-AllBelow n [] = Unit {0}
-AllBelow n (x ∷ xs) = (x < n) × AllBelow n xs
-
-pub all-append : (n : ℕ) (xs ys : List ℕ) → AllBelow n xs → AllBelow n ys → AllBelow n (xs ++ ys)
-all-append n [] ys h g = g
-all-append n (x ∷ xs) ys h g = (h .0, all-append n xs ys (h .1) g)
-
--- a word below 65,536 is two bytes
-pub bytes-below : (ws : List ℕ) → AllBelow 65536 ws → AllBelow 256 (wordsToBytes ws)
-unfolding wordsToBytes
-bytes-below [] h = tt
-bytes-below (w ∷ ws) h = let l : w < 65536 = h .0 in (omega arith, (omega arith, bytes-below ws (h .1)))
 
 -- what a line takes: words after others, and all its words
 pub both-used : (used : ℕ) (a b : List ℕ)

@@ -12,8 +12,10 @@ use borrow.Author.Tests.{le-ltb, ltb-false}
 use Rattle.units.specs.Counts.{wordBytes}
 use Rattle.units.specs.Words.{words, wordCount}
 use Rattle.units.specs.laws.Words.{length-words, words-take}
+use Rattle.packing.specs.Packing.{packedCount}
 use Rattle.codec.specs.declared.Extent.{Extent}
-use Rattle.codec.specs.Codec.{taken, fault}
+use Rattle.codec.specs.Codec.{kept, taken, fault}
+use Rattle.codec.specs.PackedPixels.{spareSet, packedExtent}
 use Rattle.codec.specs.BytePixels.{byteExtent}
 use Rattle.codec.specs.WordPixels.{wordExtent}
 use Rattle.codec.specs.RunPixels.{runsFrom, runExtent}
@@ -25,30 +27,43 @@ pub record Settled (extent : List ℕ → Extent) (r : List ℕ) : Type 0 where
   pub alike : (rest : List ℕ) → extent (take size r ++ rest) ≡ extent r
   pub all-taken : extent r .lost ≡ false → extent r .used .0 ≡ size
 
--- a fixed number of bytes, which are there or not
-fixed : (extent : List ℕ → Extent) (r : List ℕ) (n : ℕ) → ((s : List ℕ) → n ≤ length s → extent s ≡ taken n) → n ≤ length r → Settled extent r
-fixed extent r n there h =
+-- a fixed number of bytes, which are there or not, and which settle the status
+fixed : (extent : List ℕ → Extent) (status : List ℕ → ℕ) (r : List ℕ) (n : ℕ)
+    → ((s : List ℕ) → n ≤ length s → extent s ≡ kept (status (take n s)) n) → n ≤ length r → Settled extent r
+fixed extent status r n there h =
+    let l = length-take-le n r h in
     record {
       size = n;
       alike =
           λ rest.
-          there (take n r ++ rest) (omega (arith, length-append (take n r) rest, length-take-le n r h)) ∙ sym (there r h);
+          there (take n r ++ rest) (omega (arith, length-append (take n r) rest, l))
+          ∙ ap (λ (s : List ℕ). kept (status s) n) (take-at (take n r) rest n l)
+          ∙ sym (there r h);
       all-taken = λ l. ap (λ (e : Extent). e .used .0) (there r h);
     }
 
-not-over : (over : Bool) (n : ℕ) → (cond over (fault 1) (taken n) ≡ fault 1 → ⊥) → over ≡ false
-not-over true n h = absurd (h refl)
-not-over false n h = refl
+not-over : (over : Bool) (s n : ℕ) → (cond over (fault 1) (kept s n) ≡ fault 1 → ⊥) → over ≡ false
+not-over true s n h = absurd (h refl)
+not-over false s n h = refl
+
+pub packed-settled : (r : List ℕ) (p : ℕ) → (packedExtent r p ≡ fault 1 → ⊥) → Settled (λ s. packedExtent s p) r
+packed-settled r p h =
+    let m = packedCount p in
+    let status : List ℕ → ℕ = λ (s : List ℕ). cond (spareSet s p) 10 0 in
+    fixed (λ s. packedExtent s p) status r (wordBytes m)
+    (λ s l. let n : m ≤ wordCount s .0 = omega arith in rw (le-ltb (wordCount s .0) m n))
+    (omega (arith, ltb-false (wordCount r .0) m (not-over (ltb (wordCount r .0) m) (status (take (wordBytes m) r)) (wordBytes m) h)))
 
 pub bytes-settled : (r : List ℕ) (p : ℕ) → (byteExtent r p ≡ fault 1 → ⊥) → Settled (λ s. byteExtent s p) r
 bytes-settled r p h =
-    fixed (λ s. byteExtent s p) r p (λ s l. rw (le-ltb (length s) p l)) (ltb-false (length r) p (not-over (ltb (length r) p) p h))
+    fixed (λ s. byteExtent s p) (λ s. 0) r p (λ s l. rw (le-ltb (length s) p l))
+    (ltb-false (length r) p (not-over (ltb (length r) p) 0 p h))
 
 pub words-settled : (r : List ℕ) (p : ℕ) → (wordExtent r p ≡ fault 1 → ⊥) → Settled (λ s. wordExtent s p) r
 words-settled r p h =
-    fixed (λ s. wordExtent s p) r (wordBytes p)
+    fixed (λ s. wordExtent s p) (λ s. 0) r (wordBytes p)
     (λ s l. let n : p ≤ wordCount s .0 = omega arith in rw (le-ltb (wordCount s .0) p n))
-    (omega (arith, ltb-false (wordCount r .0) p (not-over (ltb (wordCount r .0) p) (wordBytes p) h)))
+    (omega (arith, ltb-false (wordCount r .0) p (not-over (ltb (wordCount r .0) p) 0 (wordBytes p) h)))
 
 -- Runs and pairs are taken one group of words at a time: the words at the front of ws that settle what is taken, where `before`
 -- bytes are taken already.

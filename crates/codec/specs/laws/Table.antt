@@ -56,13 +56,14 @@ type-most t h =
     omega (
       arith,
       own-type codecs t h,
-      had (λ c. c .dataType ≤ 10) codecs t h (omega arith, (omega arith, (omega arith, (omega arith, tt)))),
+      had (λ c. c .dataType ≤ 10) codecs t h (omega arith, (omega arith, (omega arith, (omega arith, (omega arith, tt))))),
     )
 
 -- of a data type that the table does not have, as a `match` that tests each of its types leaves it
 abbrev pub Unknown : ℕ → Type 0
-Unknown t = (((Unit {0} × (t ≡ 2 → ⊥)) × (t ≡ 3 → ⊥)) × (t ≡ 9 → ⊥)) × (t ≡ 10 → ⊥)
+Unknown t = ((((Unit {0} × (t ≡ 1 → ⊥)) × (t ≡ 2 → ⊥)) × (t ≡ 3 → ⊥)) × (t ≡ 9 → ⊥)) × (t ≡ 10 → ⊥)
 
 pub no-codec : {t : ℕ} → Unknown t → codecOf t ≡ noCodec
 unfolding codecOf
-no-codec {t} n = rw (ne-eqb t 2 (n .0 .0 .0 .1), ne-eqb t 3 (n .0 .0 .1), ne-eqb t 9 (n .0 .1), ne-eqb t 10 (n .1))
+no-codec {t} n =
+    rw (ne-eqb t 1 (n .0 .0 .0 .0 .1), ne-eqb t 2 (n .0 .0 .0 .1), ne-eqb t 3 (n .0 .0 .1), ne-eqb t 9 (n .0 .1), ne-eqb t 10 (n .1))

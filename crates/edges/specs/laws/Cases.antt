@@ -3,6 +3,7 @@ use mathlib.Core.Path.{refl}
 use Rattle.units.specs.LittleEndian.{u16At, u32At}
 use Rattle.units.specs.Scan.{scan}
 use Rattle.units.specs.Words.{words, wordsToBytes}
+use Rattle.packing.specs.Packing.{bits, wordBits, anySet}
 use Rattle.codec.specs.RunPixels.{runPixels, runTotal, runsFrom}
 use Rattle.codec.specs.PairPixels.{pairPixels, pairTotal, pairsFrom}
 use Rattle.codec.specs.Table.{codecOf, isDataType}
@@ -14,5 +15,5 @@ use Rattle.edges.specs.Files.{entriesFrom, environ}
 use Rattle.edges.specs.Cases.{AllHold, lentPixels, lentMarks, computed, rejects, reads, one, oneGood, blank, cases}
 
 pub all-hold : AllHold
-unfolding cases computed rejects reads one oneGood blank lentPixels lentMarks environ entriesFrom u16At u32At scan words wordsToBytes rejectionTo22 isDataType codecOf slotOccurs sharesSlot runPixels runTotal pairPixels pairTotal runsFrom pairsFrom headOf bodyOf reading isLost start reached readingAt statuses rows goodCount rasterRejection rasterReading pixelsAfter marksAfter
+unfolding cases computed rejects reads one oneGood blank lentPixels lentMarks environ entriesFrom u16At u32At scan words wordsToBytes rejectionTo22 isDataType codecOf slotOccurs sharesSlot runPixels runTotal pairPixels pairTotal runsFrom pairsFrom bits wordBits anySet headOf bodyOf reading isLost start reached readingAt statuses rows goodCount rasterRejection rasterReading pixelsAfter marksAfter
 all-hold = refl

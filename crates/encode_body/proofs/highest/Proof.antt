@@ -20,7 +20,11 @@ unfolding codecOf
 returns-4 c = rw (c .match .keys4)
 
 returns-5 : tie.Need-returns-5
-returns-5 c = rw (no-codec (c .match .rest))
+unfolding codecOf
+returns-5 c = rw (c .match .keys5)
+
+returns-6 : tie.Need-returns-6
+returns-6 c = rw (no-codec (c .match .rest))
 
 pub highest-spec : {M : Type 1} → statement M
-highest-spec = tie.close (tie.spec returns returns-2 returns-3 returns-4 returns-5)
+highest-spec = tie.close (tie.spec returns returns-2 returns-3 returns-4 returns-5 returns-6)

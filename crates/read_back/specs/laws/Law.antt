@@ -7,13 +7,14 @@ use lib.ListN.{length, drop}
 use borrow.Author.Tests.{eq-eqb}
 use Rattle.fields.specs.declared.Fields.{Fields}
 use Rattle.layout.specs.Chain.{Raster, sheetOf, start, rows, statuses, goodCount}
+use Rattle.layout.specs.laws.Lined.{statuses-are, good-are, end-is}
 use Rattle.layout.specs.Reading.{RasterNumbers, answerOf, readNumbers, rasterReading, pixelsAfter, marksAfter}
-use Rattle.encode_header.specs.Picture.{Picture}
-use Rattle.encode_raster.specs.File.{fileBytes}
+use Rattle.encode_header.specs.Picture.{Picture, rowAt}
+use Rattle.encode_raster.specs.File.{linesOf, fileBytes}
 use Rattle.read_back.specs.Statement.{ReadsBack, AllReadBack}
 use Rattle.read_back.specs.laws.Given.{Given, given}
 use Rattle.read_back.specs.laws.Head.{fields-are}
-use Rattle.read_back.specs.laws.Chain.{statuses-are, rows-are, good-are, end-is}
+use Rattle.read_back.specs.laws.Chain.{lineOfPicture, lined, rows-are}
 use Rattle.read_back.specs.laws.Accepted.{headed, written, raster-not-rejected, header-is}
 use Rattle.read_back.specs.laws.Colors.{colors-are}
 
@@ -36,14 +37,18 @@ reads i pixels marks b g l m =
     let e : r .nol ≡ i .nol = ap (λ (h : Fields). h .nol) (fields-are i b g) in
     let p : r .ppl ≡ i .ppl = ap (λ (h : Fields). h .ppl) (fields-are i b g) in
     let n : i .nol ≤ i .nol = omega arith in
+    let all = lined i r (headed i g) g w in
+    let line = lineOfPicture i in
+    let lines = linesOf i in
+    let row = rowAt i in
     record {
       header = header-is i b g;
       colors = colors-are i b g;
-      answer = rw q (good-numbers r (i .nol) e (good-are i r (headed i g) g w (i .nol) n) (end-is i r (headed i g) g w));
+      answer = rw q (good-numbers r (i .nol) e (good-are r (i .nol) line lines row all (i .nol) n) (end-is r (i .nol) line lines row all));
       marks-are =
           rw q
           (ap (λ (k : ℕ). statuses r k ++ drop k marks) e
-          ∙ ap (λ (x : List ℕ). x ++ drop (i .nol) marks) (statuses-are i r (headed i g) g w (i .nol) n));
+          ∙ ap (λ (x : List ℕ). x ++ drop (i .nol) marks) (statuses-are r (i .nol) line lines row all (i .nol) n));
       pixels-are =
           rw q
           ((λ j. rows r (e j) ++ drop (e j * p j) pixels)

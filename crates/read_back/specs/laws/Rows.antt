@@ -10,7 +10,7 @@ use lib.Dec.{ltb}
 use borrow.Author.Tests.{ltb-false}
 use Rattle.units.specs.laws.Parts.{row-within}
 use Rattle.codec.specs.Table.{codecOf}
-use Rattle.codec.specs.laws.RoundTripWords.{AllBelow}
+use Rattle.units.specs.laws.Below.{AllBelow}
 use Rattle.codec.specs.laws.RoundTrip.{ReadBack, read-back}
 use Rattle.encode_header.specs.Picture.{Picture, picturePixels, rowAt}
 use Rattle.encode_raster.specs.Writing.{anyAbove}

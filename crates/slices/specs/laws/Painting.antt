@@ -45,7 +45,7 @@ take-same (suc m) zero v h = absurd (omega arith)
 take-same (suc m) (suc n) v h = ap (λ (l : List ℕ). v ∷ l) (take-same m n v (omega arith))
 
 -- A run is put at its place, and then what comes after it.
-run-put : (row : List ℕ) (at : ℕ) (new next : List ℕ) {row′ : List ℕ} {r : ℕ} → row′ ≡ sets row at new → r ≡ min (at + length new) (length row)
+pub run-put : (row : List ℕ) (at : ℕ) (new next : List ℕ) {row′ : List ℕ} {r : ℕ} → row′ ≡ sets row at new → r ≡ min (at + length new) (length row)
     → sets row at (new ++ next) ≡ sets row′ r next
 run-put row at new next {row′} {r} s e = sets-append row at new next ∙ go (ltb (length row) (at + length new)) refl
   where

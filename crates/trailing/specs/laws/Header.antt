@@ -24,7 +24,7 @@ use Rattle.isolation.specs.laws.Same.{same-u16, same-scan}
 use Rattle.isolation.specs.laws.Headers.{same-fields, same-slot, rules-but-length}
 
 -- the rules that look at the length, where another length is as good
-frame-holds : (h : Fields) (size other : Bytes) → first (frameRules size h) ≡ 0
+pub frame-holds : (h : Fields) (size other : Bytes) → first (frameRules size h) ≡ 0
     → other .0 ≤ 2147483647 → 1024 ≤ other .0 → bytesOfBlocks (headerBlocks h) .0 ≤ other .0 → first (frameRules other h) ≡ 0
 frame-holds h size other e short long inside =
     let n = none-holds (frameRules size h) tt e in
@@ -82,7 +82,7 @@ module _ (f g : List ℕ) (ok : rejectionTo22 f ≡ 0) (same : (i : ℕ) → i <
       let e = a .entries two in
       same-scan (λ i. eqb (slotAt g i) v) (λ i. eqb (slotAt f i) v) (entryColor g) (entryColor f) (noColor 25) 0 (n - 0)
       (λ i l u. (
-        rw (same-slot g f (sheetOf f .dataStart) same i n e (omega arith)),
+        rw (same-slot g f (sheetOf f .dataStart) (λ j low l. same j l) i n e (omega arith)),
         rw (word (entryStart i + 2) (omega arith), word (entryStart i + 4) (omega arith), word (entryStart i + 6) (omega arith)),
       ))
 

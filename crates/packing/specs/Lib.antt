@@ -1,0 +1,4 @@
+pub mod Packing
+pub mod Lanes
+pub mod Weights
+pub mod laws

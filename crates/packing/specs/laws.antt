@@ -1,0 +1,7 @@
+pub mod Bits
+pub mod Lanes
+pub mod Numbers
+pub mod RoundTrip
+pub mod Spare
+pub mod Weights
+pub mod Writing
