@@ -7,7 +7,7 @@ ghost use Prim.Native.Nat.{_≤_, _<_};
 ghost use lib.ListN.{length};
 ghost use Rattle.limits.specs.Limits.{mostLines};
 ghost use Rattle.layout.specs.Chain.{rasterOf};
-ghost use Rattle.layout.specs.Reading.{rasterRejection, rasterReading, pixelsAfter, marksAfter};
+ghost use Rattle.layout.specs.Reading.{rejectedRaster, rasterRejection, rasterReading, pixelsAfter, marksAfter};
 ghost use Rattle.decode_raster.specs.Answer.{rasterNumbers};
 ghost use Rattle.decode_raster.specs.laws.Answer.{asPixels, Fits, ChainAt, Stepped};
 ghost use Rattle.decode_raster.specs.laws.Lines.{Done};
@@ -44,11 +44,7 @@ pub fn read_raster(file: &[u8], pixels: &mut [u16], marks: &mut [u8]) -> RasterA
 {
     let number = raster_rejection(file, pixels.len(), marks.len());
     if number != 0 {
-        return RasterAnswer {
-            answer: number as u32,
-            good: 0,
-            end: 0,
-        };
+        return unread(number);
     }
     let sheet = sheet_layout(file);
     let chain = read_lines(file, sheet, pixels, marks);
@@ -56,6 +52,17 @@ pub fn read_raster(file: &[u8], pixels: &mut [u16], marks: &mut [u8]) -> RasterA
         answer: answer_of(chain.good, sheet.nol),
         good: chain.good,
         end: chain.at,
+    }
+}
+
+// The answer where nothing was read: that of a reading rejected with this number.
+pub fn unread(number: u16) -> RasterAnswer
+    ensures { λ r. ⌜ rasterNumbers r ≡ rejectedRaster number ⌝ }
+{
+    RasterAnswer {
+        answer: number as u32,
+        good: 0,
+        end: 0,
     }
 }
 

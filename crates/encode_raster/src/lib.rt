@@ -5,19 +5,22 @@
 mod given;
 
 ghost use mathlib.Core.Path.{_≡_};
-ghost use mathlib.Core.Bool.{_&&_, _||_};
 ghost use mathlib.Core.List.{[], _∷_, _++_};
 ghost use Prim.Native.Nat.{_≤_};
 ghost use lib.ListN.{length, drop};
-ghost use lib.Dec.{eqb, ltb};
-ghost use Rattle.units.specs.Counts.{nBlocks, nBytes, bytesOfBlocks};
+ghost use Rattle.units.specs.Counts.{nBlocks, bytesOfBlocks};
 ghost use Rattle.units.specs.Over.{over};
 ghost use Rattle.units.specs.Rules.{first};
 ghost use Rattle.units.specs.Words.{wordsToBytes};
 ghost use Rattle.encode_raster.specs.File.{lineBytes, linesOf};
-ghost use Rattle.encode_raster.specs.Writing.{mostWords, writing, outAfter};
-ghost use Rattle.encode_raster.specs.Answer.{picture, writeNumbers};
+ghost use Rattle.encode_answer.specs.Answer.{writeNumbers};
+ghost use Rattle.encode_raster.specs.Writing.{writing, outAfter};
+ghost use Rattle.encode_raster.specs.Answer.{picture};
 ghost use Rattle.encode_raster.specs.laws.Answer.{bare, headSize, planRules, planSize, Within, Measured, LineFits, LinesFit};
+use encode_answer::WriteAnswer;
+use encode_answer::answer_by_size;
+use encode_answer::or_long;
+use encode_answer::rejected;
 use encode_body::body_size;
 use encode_body::highest;
 use encode_body::write_body;
@@ -27,18 +30,8 @@ use encode_header::write_header;
 use given::any_above;
 use given::field_rejection;
 use units::Bytes;
-use units::Words;
 use units::bytes_to_words;
 use units::store_words;
-
-// The most words of a body that a scanline header can count.
-const MOST_WORDS: Words = Words(65533);
-
-// The number of the rejection or 0, and the written length, 0 where nothing is written.
-pub struct WriteAnswer {
-    pub number: u16,
-    pub size: Bytes,
-}
 
 // The bytes of all scanlines, and whether a body is too long for a scanline header to count.
 pub struct Measure {
@@ -94,40 +87,8 @@ fn plan_file(job: Job, head: Bytes, pixels: &[u16], room: usize) -> WriteAnswer
         return rejected(26);
     }
     let lines = measure_lines(job, pixels);
-    if uncounted(job.scn, lines.long) {
-        return rejected(27);
-    }
     let size = head.0 + lines.size.0;
-    if 2147483647 < size {
-        return rejected(10);
-    }
-    if room < size {
-        return rejected(28);
-    }
-    WriteAnswer {
-        number: 0,
-        size: Bytes(size),
-    }
-}
-
-// 27: a scanline header is to count a body that is too long for it.
-fn uncounted(scn: u8, long: bool) -> bool
-    ensures { λ r. ⌜ r ≡ (eqb scn 1 && long) ⌝ }
-{
-    if scn == 1 {
-        return long;
-    }
-    false
-}
-
-// Nothing is written.
-fn rejected(number: u16) -> WriteAnswer
-    ensures { λ r. ⌜ r ≡ record { number = number; size = nBytes 0 } ⌝ }
-{
-    WriteAnswer {
-        number,
-        size: Bytes(0),
-    }
+    answer_by_size(job.scn, lines.long, size, room)
 }
 
 // Measures the scanlines before one is written.
@@ -160,16 +121,6 @@ fn line_head(scn: u8) -> Bytes
     ensures { λ r. ⌜ r .0 ≡ headSize scn ⌝ }
 {
     if scn == 1 { Bytes(8) } else { Bytes(0) }
-}
-
-// Whether a body is too long, this one or one before it.
-fn or_long(long: bool, body: Words) -> bool
-    ensures { λ r. ⌜ r ≡ (long || ltb (mostWords .0) (body .0)) ⌝ }
-{
-    if long {
-        return true;
-    }
-    MOST_WORDS.0 < body.0
 }
 
 // Writes the scanlines one after the other.

@@ -10,7 +10,7 @@ use Rattle.layout.specs.Reading.{RasterNumbers, rejectedRaster, rasterReading, 
 use Rattle.decode_raster.specs.Answer.{rasterNumbers}
 use Rattle.encode_header.specs.Picture.{Picture, picturePixels}
 use Rattle.encode_raster.specs.Writing.{writing, outAfter}
-use Rattle.encode_raster.specs.Answer.{writeNumbers}
+use Rattle.encode_answer.specs.Answer.{writeNumbers}
 use Rattle.read_back.specs.Statement.{givenHeader, givenColor}
 use Rattle.round_trip.specs.declared.RoundTrip.{RoundTrip}
 

@@ -4,14 +4,13 @@
 ghost use mathlib.Core.Path.{_≡_};
 ghost use Prim.Native.Nat.{_*_, _≤_};
 ghost use lib.ListN.{length};
-ghost use Rattle.layout.specs.Reading.{rejectedRaster};
-ghost use Rattle.decode_raster.specs.Answer.{rasterNumbers};
 ghost use Rattle.encode_raster.specs.Answer.{picture};
 ghost use Rattle.encode_raster.specs.Writing.{writerRejection};
 ghost use Rattle.round_trip.specs.Call.{BothCalls, GivenBack};
 use decode_raster::RasterAnswer;
 use decode_raster::read_raster;
-use encode_raster::WriteAnswer;
+use decode_raster::unread;
+use encode_answer::WriteAnswer;
 use encode_raster::write_raster;
 
 // What the writer answered, and the reader. Where the writer rejected the picture nothing was read, and the reader's answer is the
@@ -47,15 +46,4 @@ pub fn write_and_read(
     let size = written.size.0;
     let read = read_raster(&out[..size], back, marks);
     RoundTrip { written, read }
-}
-
-// The reader's answer where nothing was read: that of a reading rejected with this number.
-fn unread(number: u16) -> RasterAnswer
-    ensures { λ r. ⌜ rasterNumbers r ≡ rejectedRaster number ⌝ }
-{
-    RasterAnswer {
-        answer: number as u32,
-        good: 0,
-        end: 0,
-    }
 }

@@ -4,7 +4,7 @@
 // the color table, the number of pixels, the room of the output, and the byte that the output holds before the call;
 // then the table, then the pixels, two bytes each. Prints `refused N` or `written LENGTH` and then the whole output as it
 // is after the call; `too long` or `short` where the input is.
-use encode_raster::WriteAnswer;
+use encode_answer::WriteAnswer;
 use encode_raster::write_raster;
 use libc::STDIN_FILENO;
 use libc::STDOUT_FILENO;

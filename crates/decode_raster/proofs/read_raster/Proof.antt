@@ -1,3 +1,4 @@
+use mathlib.Core.Path.{_∙_}
 use Rattle.decode_raster.specs.laws.Whole.{rejected-whole, has-room, read-whole}
 use borrow.Author.Needs.{needs}
 use Rattle.decode_raster.proofs.read_raster.Statement.{statement}
@@ -5,8 +6,10 @@ use Rattle.decode_raster.proofs.read_raster.Tie as tie
 
 returns : tie.Need-returns
 returns c =
-    let a = c .before .before .before .before .before .args in
-    rejected-whole (a .file .now) (a .pixels .now) (a .marks .now) (c .before .raster-rejection .ensures) (c .if1 .taken)
+    let t = c .before in
+    let a = t .before .before .before .before .before .args in
+    let x = rejected-whole (a .file .now) (a .pixels .now) (a .marks .now) (t .before .raster-rejection .ensures) (t .if1 .taken) in
+    (c .unread .ensures ∙ x .0, x .1)
 
 read-lines-requires : tie.Need-read-lines-requires
 read-lines-requires c κs =
@@ -30,7 +33,7 @@ read-raster-spec =
     tie.close
     (tie.spec
     (λ c κs. search needs)
-    (λ c. search needs)
+    (λ c κs. search needs)
     returns
     (λ c κs. search needs)
     read-lines-requires

@@ -18,7 +18,8 @@ use Rattle.encode_header.specs.declared.Job.{Job}
 use Rattle.encode_header.specs.Picture.{rowAt}
 use Rattle.encode_header.specs.Header.{tableArea, headerBytes, headerSize}
 use Rattle.encode_raster.specs.File.{lineBytes, linesOf, fileBytes}
-use Rattle.encode_raster.specs.Writing.{anyAbove, mostWords, anyLong, lengthRules, pictureRules}
+use Rattle.encode_raster.specs.Writing.{anyAbove, anyLong, lengthRules, pictureRules}
+use Rattle.encode_answer.specs.Sizes.{mostWords}
 use Rattle.encode_header.specs.Job.{jobPicture}
 use Rattle.encode_header.specs.laws.Positions.{length-header}
 use Rattle.encode_raster.specs.laws.Answer.{bare, planRules}

@@ -13,7 +13,8 @@ use Rattle.encode_header.specs.declared.Job.{Job}
 use Rattle.encode_raster.specs.declared.Measure.{Measure}
 use Rattle.encode_header.specs.Picture.{Picture}
 use Rattle.encode_raster.specs.File.{lineBytes, linesOf}
-use Rattle.encode_raster.specs.Writing.{anyAbove, mostWords, anyLong}
+use Rattle.encode_raster.specs.Writing.{anyAbove, anyLong}
+use Rattle.encode_answer.specs.Sizes.{mostWords, sizeRules}
 use Rattle.encode_header.specs.Job.{jobPicture}
 
 -- the fields of a picture that are within the limits
@@ -32,10 +33,7 @@ headSize scn = cond (eqb scn 1) 8 0
 abbrev pub planRules : Job → List ℕ → ℕ → ℕ → List Rule
 planRules j pixels head room =
     rule 26 (anyAbove (codecOf (j .dtc) .highest) (take (j .nol * j .ppl) pixels)) ∷
-    rule 27 (eqb (j .scn) 1 && anyLong (bare j pixels) (j .nol)) ∷
-    rule 10 (ltb 2147483647 (head + length (linesOf (bare j pixels) (j .nol)))) ∷
-    rule 28 (ltb room (head + length (linesOf (bare j pixels) (j .nol)))) ∷
-    []
+    sizeRules (j .scn) (anyLong (bare j pixels) (j .nol)) (head + length (linesOf (bare j pixels) (j .nol))) room
 
 abbrev pub planSize : ℕ → Job → List ℕ → ℕ → ℕ
 planSize number j pixels head = cond (eqb number 0) (head + length (linesOf (bare j pixels) (j .nol))) 0

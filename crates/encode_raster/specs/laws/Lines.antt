@@ -15,7 +15,8 @@ use Rattle.units.specs.Words.{wordCount}
 use Rattle.codec.specs.Table.{bodyBytes}
 use Rattle.encode_header.specs.Picture.{Picture, rowAt}
 use Rattle.encode_raster.specs.File.{lineBytes, linesOf}
-use Rattle.encode_raster.specs.Writing.{mostWords, anyLong}
+use Rattle.encode_raster.specs.Writing.{anyLong}
+use Rattle.encode_answer.specs.Sizes.{mostWords}
 use Rattle.encode_raster.specs.laws.Answer.{LineFits, LinesFit}
 use Rattle.encode_raster.specs.laws.Bounds.{length-next}
 use Rattle.units.specs.laws.Parts.{tail-is, put-next, row-is}

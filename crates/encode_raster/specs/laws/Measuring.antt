@@ -11,7 +11,8 @@ use Rattle.units.specs.Counts.{nBytes, wordsOfBytes}
 use Rattle.codec.specs.Table.{bodyBytes}
 use Rattle.encode_header.specs.Picture.{Picture, rowAt}
 use Rattle.encode_raster.specs.File.{linesOf}
-use Rattle.encode_raster.specs.Writing.{mostWords, anyLong}
+use Rattle.encode_raster.specs.Writing.{anyLong}
+use Rattle.encode_answer.specs.Sizes.{mostWords}
 use Rattle.encode_raster.specs.laws.Answer.{headSize, Measured}
 use Rattle.encode_raster.specs.laws.Bounds.{length-next, lines-most}
 use Rattle.units.specs.laws.Parts.{row-is}

@@ -1,20 +1,22 @@
 -- The plan of a file: the rejections by its pixels and its sizes, or its length.
 use Prim.Native.Nat.{ℕ, _+_, _-_, _*_, _≤_, _<_}
 use mathlib.Core.Path.{_≡_, refl, sym, _∙_, ap, subst⁻¹}
-use mathlib.Core.Bool.{Bool, true, false, _&&_}
+use mathlib.Core.Bool.{Bool, true, false, cond}
 use mathlib.Core.List.{List}
 use native.Mathlib.Omega.{arith}
 use lib.ListN.{length, take, drop}
 use lib.Dec.{eqb}
-use borrow.Author.Tests.{lt-ltb, le-ltb}
 use Rattle.units.specs.Counts.{nBytes}
 use Rattle.units.specs.Rules.{first}
 use Rattle.codec.specs.Table.{codecOf}
 use Rattle.encode_header.specs.declared.Job.{Job}
 use Rattle.encode_raster.specs.declared.Measure.{Measure}
-use Rattle.encode_raster.specs.declared.WriteAnswer.{WriteAnswer}
+use Rattle.encode_answer.specs.declared.WriteAnswer.{WriteAnswer}
 use Rattle.encode_raster.specs.File.{linesOf}
 use Rattle.encode_raster.specs.Writing.{anyAbove, anyLong}
+use Rattle.encode_answer.specs.Sizes.{sizeRules, WriteNumbers, answerBy}
+use Rattle.encode_answer.specs.Answer.{writeNumbers}
+use Rattle.encode_answer.specs.laws.Sizes.{answer-number, answer-size}
 use Rattle.encode_raster.specs.laws.Answer.{bare, planRules, planSize, Measured}
 
 -- the first n pixels, as a part
@@ -25,16 +27,6 @@ abbrev pub Planned : Job → List ℕ → ℕ → ℕ → WriteAnswer → Type 0
 Planned j pixels head room r =
     (r .number ≡ first (planRules j pixels head room)) × (r .size .0 ≡ planSize (r .number) j pixels head)
 
--- The answer by the rules of the sizes, where the scanlines measure d and `long` says that a body is too long to be counted.
-pub record BySizes (j : Job) (pixels : List ℕ) (head room : ℕ) (d : Measure) (long : Bool) : Type 0 where
-  pub plan-27 : {r : WriteAnswer} → r ≡ record { number = 27; size = nBytes 0 } → long ≡ true → Planned j pixels head room r
-  pub plan-10 : long ≡ false → {r : WriteAnswer} → r ≡ record { number = 10; size = nBytes 0 } → 2147483647 < head + d .size .0
-      → Planned j pixels head room r
-  pub plan-28 : long ≡ false → {r : WriteAnswer} → r ≡ record { number = 28; size = nBytes 0 } → head + d .size .0 ≤ 2147483647
-      → room < head + d .size .0 → Planned j pixels head room r
-  pub plan-none : long ≡ false → head + d .size .0 ≤ 2147483647 → head + d .size .0 ≤ room
-      → Planned j pixels head room (record { number = 0; size = nBytes (head + d .size .0) })
-
 module _ (j : Job) (pixels : List ℕ) (head room : ℕ) {m : ℕ} {above : Bool} (high : m ≡ codecOf (j .dtc) .highest)
     (tested : above ≡ anyAbove m (take (j .nol * j .ppl - 0) (drop 0 pixels))) where
   pixels-tested : anyAbove (codecOf (j .dtc) .highest) (take (j .nol * j .ppl) pixels) ≡ above
@@ -43,25 +35,21 @@ module _ (j : Job) (pixels : List ℕ) (head room : ℕ) {m : ℕ} {above : Bool
   pub plan-26 : {r : WriteAnswer} → r ≡ record { number = 26; size = nBytes 0 } → above ≡ true → Planned j pixels head room r
   plan-26 e t = subst⁻¹ (λ (x : WriteAnswer). Planned j pixels head room x) e (simp (pixels-tested ∙ t), refl)
 
-  module _ (under : above ≡ false) {d : Measure} (measured : Measured (bare j pixels) (j .nol) d)
-      {long : Bool} (counts : long ≡ (eqb (j .scn) 1 && d .long)) where
-    counts-tested : (eqb (j .scn) 1 && anyLong (bare j pixels) (j .nol)) ≡ long
-    counts-tested = sym (counts ∙ ap (λ (b : Bool). eqb (j .scn) 1 && b) (measured .long))
-
-    whole : head + length (linesOf (bare j pixels) (j .nol)) ≡ head + d .size .0
-    whole = ap (λ (n : ℕ). head + n) (sym (measured .size))
-
-    pub by-sizes : BySizes j pixels head room d long
-    by-sizes =
-        record {
-          plan-27 =
-              λ e t. subst⁻¹ (λ (x : WriteAnswer). Planned j pixels head room x) e (simp (pixels-tested ∙ under, counts-tested ∙ t), refl);
-          plan-10 =
-              λ short e t. subst⁻¹ (λ (x : WriteAnswer). Planned j pixels head room x) e
-              (simp (pixels-tested ∙ under, counts-tested ∙ short, whole, lt-ltb _ _ t), refl);
-          plan-28 =
-              λ short e l t. subst⁻¹ (λ (x : WriteAnswer). Planned j pixels head room x) e
-              (simp (pixels-tested ∙ under, counts-tested ∙ short, whole, le-ltb _ _ l, lt-ltb _ _ t), refl);
-          plan-none =
-              λ short l f. (simp (pixels-tested ∙ under, counts-tested ∙ short, whole, le-ltb _ _ l, le-ltb _ _ f), sym whole);
-        }
+  -- no pixel is too high: by the sizes, where the scanlines measure d
+  pub plan-sizes : above ≡ false → {d : Measure} → Measured (bare j pixels) (j .nol) d → {r : WriteAnswer}
+      → writeNumbers r ≡ answerBy (first (sizeRules (j .scn) (d .long) (head + d .size .0) room)) (head + d .size .0)
+      → Planned j pixels head room r
+  plan-sizes under {d} measured {r} e =
+      let i = bare j pixels in
+      let sizes : first (sizeRules (j .scn) (d .long) (head + d .size .0) room)
+      ≡ first (sizeRules (j .scn) (anyLong i (j .nol)) (head + length (linesOf i (j .nol))) room) =
+      λ k. first (sizeRules (j .scn) (measured .long k) (head + measured .size k) room) in
+      let rules : first (planRules j pixels head room) ≡ first (sizeRules (j .scn) (anyLong i (j .nol)) (head + length (linesOf i (j .nol))) room) =
+      rw (pixels-tested ∙ under) in
+      let n = first (sizeRules (j .scn) (d .long) (head + d .size .0) room) in
+      let number : r .number ≡ n = ap (λ (x : WriteNumbers). x .number) e ∙ answer-number n (head + d .size .0) in (
+        number ∙ sizes ∙ sym rules,
+        ap (λ (x : WriteNumbers). x .size) e
+            ∙ answer-size n (head + d .size .0)
+            ∙ (λ k. cond (eqb (sym number k) 0) (head + measured .size k) 0),
+      )

@@ -12,13 +12,14 @@ use Rattle.units.specs.Counts.{nBytes}
 use Rattle.units.specs.Rules.{first}
 use Rattle.units.specs.laws.Rules.{first-here, first-later, none-holds, NoneHolds}
 use Rattle.encode_header.specs.declared.Job.{Job}
-use Rattle.encode_raster.specs.declared.WriteAnswer.{WriteAnswer}
+use Rattle.encode_answer.specs.declared.WriteAnswer.{WriteAnswer}
 use Rattle.encode_header.specs.Picture.{Picture}
 use Rattle.encode_header.specs.Header.{headerBytes, headerSize}
 use Rattle.encode_raster.specs.File.{linesOf, fileBytes}
 use Rattle.encode_raster.specs.Writing.{givenRules, pictureRules, writerRejection, writing, outAfter}
 use Rattle.encode_header.specs.Job.{jobPicture, pictureOf, headerOver}
-use Rattle.encode_raster.specs.Answer.{writeNumbers}
+use Rattle.encode_answer.specs.Answer.{writeNumbers}
+use Rattle.encode_answer.specs.laws.Call as call
 use Rattle.encode_header.specs.laws.Positions.{length-header}
 use Rattle.encode_raster.specs.laws.Answer.{bare, planRules, Within, LinesFit}
 use Rattle.units.specs.laws.Parts.{tail-is, put-next}
@@ -32,16 +33,12 @@ Written i out r now = (writeNumbers r ≡ writing i (length out)) × (now ≡ ou
 refused : (i : Picture) (out : List ℕ) (r : WriteAnswer) → r .number ≡ writerRejection i (length out) → (r .number ≡ 0 → ⊥) → r .size .0 ≡ 0
     → Written i out r out
 unfolding writing outAfter
-refused i out r n some z =
-    let t : eqb (writerRejection i (length out)) 0 ≡ false = ne-eqb (writerRejection i (length out)) 0 (λ e. some (n ∙ e)) in
-    (rw t (λ k. record { number = n k; size = z k }), rw t)
+refused i out = call.refused (writerRejection i (length out)) (fileBytes i) out
 
 accepted : (i : Picture) (out : List ℕ) (r : WriteAnswer) → r .number ≡ writerRejection i (length out) → r .number ≡ 0
     → r .size .0 ≡ length (fileBytes i) → (now : List ℕ) → now ≡ fileBytes i ++ drop (length (fileBytes i)) out → Written i out r now
 unfolding writing outAfter
-accepted i out r n none z now e =
-    let t : eqb (writerRejection i (length out)) 0 ≡ true = eq-eqb (writerRejection i (length out)) 0 (sym n ∙ none) in
-    (rw t (λ k. record { number = none k; size = z k }), rw t e)
+accepted i out = call.accepted (writerRejection i (length out)) (fileBytes i) out
 
 -- What is known behind the header of a file that is written: the scanlines fit what is lent for them, and end the call.
 pub record Ready (j : Job) (table pixels out : List ℕ) (r : WriteAnswer) (start : ℕ) (now : List ℕ) : Type 0 where

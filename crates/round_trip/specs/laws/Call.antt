@@ -8,7 +8,8 @@ use Rattle.color.specs.Color.{colorReading}
 use Rattle.layout.specs.Reading.{rasterReading, pixelsAfter, marksAfter}
 use Rattle.encode_header.specs.Picture.{Picture}
 use Rattle.encode_raster.specs.File.{fileBytes}
-use Rattle.encode_raster.specs.Writing.{WriteNumbers, writerRejection}
+use Rattle.encode_raster.specs.Writing.{writerRejection}
+use Rattle.encode_answer.specs.Sizes.{WriteNumbers}
 use Rattle.encode_raster.specs.laws.Call.{writes, begins}
 use Rattle.read_back.specs.Statement.{ReadsBack}
 use Rattle.read_back.specs.laws.Law.{reads-back}

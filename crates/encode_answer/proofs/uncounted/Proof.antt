@@ -1,6 +1,6 @@
 use borrow.Author.Tests.{eq-eqb, ne-eqb}
-use Rattle.encode_raster.proofs.uncounted.Statement.{statement}
-use Rattle.encode_raster.proofs.uncounted.Tie as tie
+use Rattle.encode_answer.proofs.uncounted.Statement.{statement}
+use Rattle.encode_answer.proofs.uncounted.Tie as tie
 
 returns : tie.Need-returns
 returns c = simp (eq-eqb _ _ (c .if1 .taken))
