@@ -1,0 +1,6 @@
+pub mod Answer
+pub mod Call
+pub mod Lines
+pub mod Survey
+pub mod Whole
+pub mod Writing

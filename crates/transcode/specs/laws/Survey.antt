@@ -1,0 +1,173 @@
+-- The loop that surveys the scanlines: what holds before scanline k, at its start, from turn to turn, where one is refused, and at its end.
+use Prim.Native.Nat.{ℕ, zero, suc, _+_, _-_, _*_, _^_, _≤_, _<_, zero-le}
+use mathlib.Core.Path.{_≡_, refl, sym, _∙_, ap, ap₂, subst, subst⁻¹}
+use mathlib.Core.Bool.{Bool, true, false, not, cond, _&&_, _||_, false≢true}
+use mathlib.Core.List.{List}
+use native.Mathlib.Numerals.{add-one}
+use native.Mathlib.Omega.{arith}
+use borrow.Author.Tests.{eq-eqb, ne-eqb}
+use lib.ListN.{length}
+use lib.Dec.{eqb, ltb}
+use Rattle.units.specs.Counts.{nBytes, wordsOfBytes}
+use Rattle.units.specs.Rules.{first}
+use Rattle.units.specs.Words.{wordCount}
+use Rattle.codec.specs.Table.{bodyBytes}
+use Rattle.layout.specs.Scanline.{headOf, pixelOffset, Reading, readingOf}
+use Rattle.layout.specs.Chain.{Raster, start, reached, headAt, readingAt}
+use Rattle.layout.specs.laws.Chain.{start-zero, reached-zero, length-reading}
+use Rattle.layout.specs.laws.Line.{length-row}
+use Rattle.scan_scanline.specs.Answer.{bodyStart, firstColumn}
+use Rattle.encode_answer.specs.declared.WriteAnswer.{WriteAnswer}
+use Rattle.encode_answer.specs.Sizes.{mostWords, sizeRules, answerBy}
+use Rattle.encode_answer.specs.Answer.{writeNumbers}
+use Rattle.transcode.specs.declared.LineSurvey.{LineSurvey}
+use Rattle.transcode.specs.declared.Survey.{Survey}
+use Rattle.transcode.specs.File.{otherType, newLines}
+use Rattle.transcode.specs.Transcoding.{anyLine, isRefused, isPartway, isLong, lineRules}
+use Rattle.transcode.specs.laws.Answer.{oldRow, newSize, Ready, IsSurvey, Surveyed}
+use Rattle.transcode.specs.laws.Lines.{line-some, line-next, line-first, lines-first, lent, reading-is, head-is, step-is, next-within, reached-next, start-next, length-line, line-most}
+
+-- a first column that is not 0
+pub partway-by : (scn : ℕ) (rest : List ℕ) {column : ℕ} → column ≡ firstColumn scn rest
+    → not (eqb column 0) ≡ (eqb scn 1 && not (eqb (pixelOffset (headOf rest)) 0))
+partway-by scn rest e = ap (λ (n : ℕ). not (eqb n 0)) e ∙ go (eqb scn 1)
+  where
+    go : (b : Bool) → not (eqb (cond b (pixelOffset (headOf rest)) 0) 0) ≡ (b && not (eqb (pixelOffset (headOf rest)) 0))
+    go true = refl
+    go false = refl
+
+pub record SurveyAt (r : Raster) (at : ℕ) (partway long : Bool) (size : ℕ) (row : List ℕ) (k : ℕ) : Type 0 where
+  pub low : k ≤ r .nol
+  pub here : at ≡ start r k
+  pub within : at ≤ length (r .bytes)
+  pub there : reached r k ≡ true
+  pub good : anyLine (isRefused r) k ≡ false
+  pub partway-is : partway ≡ anyLine (isPartway r) k
+  pub long-is : long ≡ anyLine (isLong r) k
+  pub size-is : size ≡ length (newLines r k)
+  pub size-most : size ≤ 262152 * k
+  pub wide : length row ≡ r .ppl
+
+pub survey-first : (r : Raster) (row : List ℕ) → Ready r row → SurveyAt r (r .dataStart) false false 0 row 0
+survey-first r row ready =
+    record {
+      low = zero-le;
+      here = sym (start-zero r);
+      within = ready .starts;
+      there = reached-zero r;
+      good = line-first (isRefused r);
+      partway-is = sym (line-first (isPartway r));
+      long-is = sym (line-first (isLong r));
+      size-is = sym (ap length (lines-first r));
+      size-most = zero-le;
+      wide = ready .wide;
+    }
+
+module _ (r : Raster) (at : ℕ) (partway long : Bool) (size : ℕ) (row : List ℕ) (k : ℕ) (now : SurveyAt r at partway long size row k) (more : k < r .nol)
+    {s : LineSurvey} {to : ℕ} (typed : to ≡ otherType (r .dataType))
+    (line : IsSurvey (r .scn) (r .dataType) (length row) (k + 1) to (lent r k at (now .here) (now .there)) s) where
+  abbrev rest : List ℕ
+  rest = lent r k at (now .here) (now .there)
+
+  -- by the raster's width and the other type
+  surveyed : IsSurvey (r .scn) (r .dataType) (r .ppl) (k + 1) (otherType (r .dataType)) rest s
+  surveyed =
+      subst (λ (p : ℕ). IsSurvey (r .scn) (r .dataType) p (k + 1) (otherType (r .dataType)) rest s) (now .wide)
+      (subst (λ (t : ℕ). IsSurvey (r .scn) (r .dataType) (length row) (k + 1) t rest s) typed line)
+
+  status-is : s .status ≡ readingAt r k .status
+  status-is = surveyed .status ∙ sym (ap (λ (x : Reading). x .status) (reading-is r k at (now .here) (now .there)))
+
+  -- the row has its width still
+  pub row-kept : {row′ : List ℕ} → row′ ≡ oldRow (r .scn) (r .dataType) (length row) (k + 1) rest → length row′ ≡ r .ppl
+  row-kept e = ap length e ∙ length-row (r .scn) (r .dataType) (length row) rest (k + 1) ∙ now .wide
+
+  -- it is refused, and so the sheet is
+  pub survey-refused : (s .status ≡ 0 → ⊥) → Surveyed r (record { refused = true; partway = partway; long = long; size = nBytes size })
+  survey-refused some =
+      let has : isRefused r k ≡ true = ap not (ne-eqb (readingAt r k .status) 0 (λ e. some (status-is ∙ e))) in
+      record {
+        refused = sym (line-some (isRefused r) (r .nol) k more has);
+        partway = λ e. absurd (false≢true (sym e));
+        long = λ e. absurd (false≢true (sym e));
+        size = λ e. absurd (false≢true (sym e));
+        most = omega (arith, now .size-most);
+      }
+
+  module _ (none : s .status ≡ 0) where
+    good-here : readingAt r k .status ≡ 0
+    good-here = sym status-is ∙ none
+
+    pub used-within : at + s .used .0 ≤ length (r .bytes)
+    used-within = omega (arith, surveyed .used, next-within r k at (now .here) (now .there) (now .within))
+
+    pub body-most : r .ppl ≤ 65535 → {head : ℕ} → head ≡ bodyStart (r .scn) → head + s .body .0 ≤ 262152
+    body-most p h =
+        let new = readingOf (r .scn) (r .dataType) (r .ppl) (k + 1) rest .row in
+        let l : length new ≡ r .ppl = sym (ap (λ (x : Reading). length (x .row)) (reading-is r k at (now .here) (now .there))) ∙ length-reading r k in
+        omega (arith, h, surveyed .body, line-most (r .scn) (otherType (r .dataType)) new (omega arith))
+
+    -- one scanline more
+    pub survey-next : r .ppl ≤ 65535 → {head words : ℕ} {partway′ long′ : Bool} {row′ : List ℕ} → head ≡ bodyStart (r .scn)
+        → partway′ ≡ (partway || s .partway) → words ≡ wordsOfBytes (s .body) .0 → long′ ≡ (long || ltb (mostWords .0) words)
+        → row′ ≡ oldRow (r .scn) (r .dataType) (length row) (k + 1) rest
+        → SurveyAt r (at + s .used .0) partway′ long′ (size + (head + s .body .0)) row′ (k + 1)
+    survey-next p {head} {words} {partway′} {long′} {row′} h a w b l =
+        let x = reading-is r k at (now .here) (now .there) in
+        let t = otherType (r .dataType) in
+        let body : wordsOfBytes (s .body) .0 ≡ wordCount (bodyBytes t (r .scn) (readingAt r k .row)) .0 =
+        ap (λ (n : ℕ). wordsOfBytes (nBytes n) .0) (surveyed .body ∙ sym (ap (λ (y : Reading). length (bodyBytes t (r .scn) (y .row))) x)) in
+        subst⁻¹ (λ (n : ℕ). SurveyAt r (at + s .used .0) partway′ long′ (size + (head + s .body .0)) row′ n) (add-one k)
+        (record {
+          low = more;
+          here = start-next r k at (now .here) (now .there) good-here (surveyed .used);
+          within = used-within;
+          there = reached-next r k at (now .here) (now .there) good-here;
+          good = line-next (isRefused r) k ∙ ap₂ _||_ (now .good) (ap not (eq-eqb (readingAt r k .status) 0 good-here));
+          partway-is =
+              a
+              ∙ ap₂ _||_ (now .partway-is)
+              (surveyed .partway
+              ∙ sym (ap (λ (y : List ℕ). eqb (r .scn) 1 && not (eqb (pixelOffset y) 0)) (head-is r k at (now .here) (now .there))))
+              ∙ sym (line-next (isPartway r) k);
+          long-is = b ∙ ap₂ _||_ (now .long-is) (ap (ltb (mostWords .0)) (w ∙ body)) ∙ sym (line-next (isLong r) k);
+          size-is =
+              (λ j. now .size-is j + (h j + s .body .0))
+              ∙ sym (length-line r k at (now .here) (now .there) good-here (surveyed .body));
+          size-most = omega (arith, now .size-most, body-most p h);
+          wide = row-kept l;
+        })
+
+-- none is refused
+pub survey-done : (r : Raster) (at : ℕ) (partway long : Bool) (size : ℕ) (row : List ℕ) (k : ℕ) → SurveyAt r at partway long size row k → k ≡ r .nol
+    → Surveyed r (record { refused = false; partway = partway; long = long; size = nBytes size })
+survey-done r at partway long size row k now e =
+    record {
+      refused = sym (ap (anyLine (isRefused r)) (sym e) ∙ now .good);
+      partway = λ z. now .partway-is ∙ ap (anyLine (isPartway r)) e;
+      long = λ z. now .long-is ∙ ap (anyLine (isLong r)) e;
+      size = λ z. now .size-is ∙ ap (λ (n : ℕ). length (newLines r n)) e;
+      most = omega (arith, now .size-most);
+    }
+
+-- the answer by a survey
+module _ (r : Raster) (room : ℕ) {s : Survey} (surveyed : Surveyed r s) where
+  abbrev Planned : WriteAnswer → Type 0
+  Planned a = writeNumbers a ≡ answerBy (first (lineRules r (newSize r) room)) (newSize r)
+
+  pub plan-41 : s .refused ≡ true → {a : WriteAnswer} → a ≡ record { number = 41; size = nBytes 0 } → Planned a
+  plan-41 t e = ap writeNumbers e ∙ simp (sym (surveyed .refused) ∙ t)
+
+  module _ (none : s .refused ≡ false) where
+    pub plan-42 : s .partway ≡ true → {a : WriteAnswer} → a ≡ record { number = 42; size = nBytes 0 } → Planned a
+    plan-42 t e = ap writeNumbers e ∙ simp (sym (surveyed .refused) ∙ none, sym (surveyed .partway none) ∙ t)
+
+    pub plan-sizes : s .partway ≡ false → {a : WriteAnswer}
+        → writeNumbers a ≡ answerBy (first (sizeRules (r .scn) (s .long) (r .dataStart + s .size .0) room)) (r .dataStart + s .size .0)
+        → Planned a
+    plan-sizes t e =
+        let rules : first (lineRules r (newSize r) room) ≡ first (sizeRules (r .scn) (anyLine (isLong r) (r .nol)) (newSize r) room) =
+        simp (sym (surveyed .refused) ∙ none, sym (surveyed .partway none) ∙ t) in
+        e
+        ∙ (λ j. answerBy (first (sizeRules (r .scn) (surveyed .long none j) (r .dataStart + surveyed .size none j) room)) (r .dataStart + surveyed .size none j))
+        ∙ ap (λ (n : ℕ). answerBy n (newSize r)) (sym rules)

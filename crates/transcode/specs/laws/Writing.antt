@@ -1,0 +1,255 @@
+-- One new scanline put at the start of an output; and the loop that writes them: what holds before scanline k, at its start, from turn to
+-- turn and at its end.
+use Prim.Native.Nat.{ℕ, zero, suc, _+_, _-_, _/_, _%_, _≤_, _<_, zero-le}
+use mathlib.Core.Path.{_≡_, refl, sym, _∙_, ap, subst, subst⁻¹}
+use mathlib.Core.Bool.{Bool, true, false, _&&_}
+use mathlib.Core.List.{List, _++_, append-assoc}
+use mathlib.Core.Logic.{⊎-elim}
+use native.Mathlib.Nat.{eq-or-lt-of-le}
+use native.Mathlib.Numerals.{add-one}
+use native.Mathlib.Omega.{arith}
+use borrow.Author.Tests.{eq-eqb, ne-eqb, eqb-true, ltb-false, not-false}
+use borrow.Rule.Slice.PartMut.{midOf, putMid, same-len-mid}
+use lib.ListN.{length, take, drop, set, length-append, length-drop, length-set}
+use lib.Seq.{sets, length-sets, set-append-left, drop-drop, drop-at, take-at}
+use lib.Dec.{eqb, ltb}
+use Rattle.units.specs.Counts.{nBytes, wordsOfBytes}
+use Rattle.units.specs.Over.{over}
+use Rattle.units.specs.Words.{wordCount, twoBytes}
+use Rattle.units.specs.laws.Over.{over-fits}
+use Rattle.units.specs.laws.Parts.{tail-is, put-tail, put-next}
+use Rattle.codec.specs.Table.{bodyBytes}
+use Rattle.layout.specs.Scanline.{headOf, Reading, stepOf}
+use Rattle.layout.specs.Chain.{Raster, start, reached, readingAt}
+use Rattle.layout.specs.laws.Chain.{start-zero, reached-zero}
+use Rattle.layout.specs.laws.Line.{length-row}
+use Rattle.encode_answer.specs.Sizes.{mostWords}
+use Rattle.transcode.specs.declared.LineSizes.{LineSizes}
+use Rattle.transcode.specs.File.{otherType, fittedHeader, newLine, newLineAt, newLines}
+use Rattle.transcode.specs.Transcoding.{anyLine, isRefused, isLong}
+use Rattle.transcode.specs.laws.Answer.{Ready, oldRow, LineFits, IsWritten, LinesFit}
+use Rattle.transcode.specs.laws.Lines.{line-none, lines-first, lines-next, lent, reading-is, next-within, reached-next, start-next, eight-lent, line-lent}
+
+-- a word put into the first of two lists
+pub word-first : (a b : List ℕ) (i w : ℕ) → i + 2 ≤ length a → sets (a ++ b) i (twoBytes w) ≡ sets a i (twoBytes w) ++ b
+word-first a b i w h =
+    ap (λ (l : List ℕ). set l (suc i) (w / 256)) (set-append-left a b i (w % 256) (omega arith))
+    ∙ set-append-left (set a i (w % 256)) b (suc i) (w / 256) (omega (arith, length-set a i (w % 256)))
+
+module _ (scn to : ℕ) (rest row out : List ℕ) (fits : LineFits scn to (headOf rest) row out) where
+  abbrev body : List ℕ
+  body = bodyBytes to scn row
+
+  abbrev line : List ℕ
+  line = newLine scn to (headOf rest) row
+
+  open-is : (scn ≡ 1 → ⊥) → line ≡ body
+  unfolding newLine
+  open-is n = rw (ne-eqb scn 1 n)
+
+  headed-is : scn ≡ 1 → line ≡ fittedHeader (headOf rest) body ++ body
+  unfolding newLine
+  headed-is e = rw (eq-eqb scn 1 e)
+
+  -- without a header
+  pub line-open : (scn ≡ 1 → ⊥) → {size : ℕ} {now : List ℕ} → (size ≡ length body) × (now ≡ over body out)
+      → (size ≡ length line) × (now ≡ line ++ drop (length line) out)
+  line-open n e =
+      let o = open-is n in
+      let r : length body ≤ length out = omega (arith, fits .room, ap length o) in
+      rw o (e .0, e .1 ∙ over-fits body out r)
+
+  -- with one: it is copied, the body is put behind it, and then the words to follow are fitted
+  module _ (one : scn ≡ 1) where
+    pub length-headed : length line ≡ 8 + length body
+    length-headed =
+        omega (
+          arith,
+          ap length (headed-is one),
+          length-append (fittedHeader (headOf rest) body) body,
+          length-sets (headOf rest) 2 (twoBytes (wordCount body .0 + 2)),
+          fits .eight one,
+        )
+
+    pub headed-room : 8 + length body ≤ length out
+    headed-room = omega (arith, fits .room, length-headed)
+
+    module _ {copied : List ℕ} (copy : copied ≡ over (headOf rest) out) where
+      copied-is : copied ≡ headOf rest ++ drop 8 out
+      copied-is =
+          copy
+          ∙ over-fits (headOf rest) out (omega (arith, headed-room, fits .eight one))
+          ∙ ap (λ (n : ℕ). headOf rest ++ drop n out) (fits .eight one)
+
+      pub copied-length : length copied ≡ length out
+      copied-length =
+          omega (arith, ap length copied-is, length-append (headOf rest) (drop 8 out), length-drop 8 out, headed-room, fits .eight one)
+
+      pub line-headed : {size follow : ℕ} {part now : List ℕ}
+          → (size ≡ length body) × (part ≡ over body (midOf 8 (length copied - 8) copied))
+          → follow ≡ wordsOfBytes (nBytes size) .0
+          → now ≡ sets (putMid 8 (length copied - 8) copied part) 2 (twoBytes (follow + 2))
+          → (8 + size ≡ length line) × (now ≡ line ++ drop (length line) out)
+      line-headed {size} {follow} {part} e f p =
+          let hd = headOf rest in
+          let eight = fits .eight one in
+          let tail : midOf 8 (length copied - 8) copied ≡ drop 8 out =
+          tail-is 8 copied ∙ ap (drop 8) copied-is ∙ drop-at hd (drop 8 out) 8 eight in
+          let put : part ≡ body ++ drop (8 + length body) out =
+          e .1
+          ∙ ap (over body) tail
+          ∙ over-fits body (drop 8 out) (omega (arith, length-drop 8 out, headed-room))
+          ∙ ap (λ (l : List ℕ). body ++ l) (drop-drop (length body) 8 out) in
+          let placed : putMid 8 (length copied - 8) copied part ≡ hd ++ part =
+          put-tail 8 copied part ∙ ap (λ (l : List ℕ). l ++ part) (ap (take 8) copied-is ∙ take-at hd (drop 8 out) 8 eight) in
+          let w : follow + 2 ≡ wordCount body .0 + 2 = ap (λ (n : ℕ). n + 2) (f ∙ ap (λ (n : ℕ). wordsOfBytes (nBytes n) .0) (e .0)) in (
+            omega (arith, e .0, length-headed),
+            p
+                ∙ (λ j. sets (placed j) 2 (twoBytes (w j)))
+                ∙ word-first hd part 2 (wordCount body .0 + 2) (omega (arith, eight))
+                ∙ ap (λ (l : List ℕ). fittedHeader hd body ++ l) put
+                ∙ sym (append-assoc (fittedHeader hd body) body (drop (8 + length body) out))
+                ∙ ap (λ (l : List ℕ). l ++ drop (8 + length body) out) (sym (headed-is one))
+                ∙ ap (λ (n : ℕ). line ++ drop n out) (sym length-headed),
+          )
+
+-- fewer scanlines are no longer
+grows : (r : Raster) (n k : ℕ) → k ≤ n → length (newLines r k) ≤ length (newLines r n)
+grows r zero k h = let e : k ≡ 0 = omega arith in rw e (omega arith)
+grows r (suc n) k h =
+    ⊎-elim
+    (λ e. rw e (omega arith))
+    (λ l. omega (arith, grows r n k (omega arith), ap length (lines-next r n), length-append (newLines r n) (newLineAt r n)))
+    (eq-or-lt-of-le h)
+
+pub record WrittenAt (r : Raster) (from : ℕ) (row out₀ out : List ℕ) (at k : ℕ) : Type 0 where
+  pub low : k ≤ r .nol
+  pub here : from ≡ start r k
+  pub within : from ≤ length (r .bytes)
+  pub there : reached r k ≡ true
+  pub wide : length row ≡ r .ppl
+  pub at-is : at ≡ length (newLines r k)
+  pub out-is : out ≡ newLines r k ++ drop at out₀
+  pub same : length out ≡ length out₀
+
+pub write-first : (r : Raster) (row out : List ℕ) → Ready r row → WrittenAt r (r .dataStart) row out out 0 0
+write-first r row out ready =
+    record {
+      low = zero-le;
+      here = sym (start-zero r);
+      within = ready .starts;
+      there = reached-zero r;
+      wide = ready .wide;
+      at-is = sym (ap length (lines-first r));
+      out-is = sym (ap (λ (l : List ℕ). l ++ out) (lines-first r));
+      same = refl;
+    }
+
+module _ (r : Raster) (from : ℕ) (row out₀ out : List ℕ) (at k : ℕ) (now : WrittenAt r from row out₀ out at k) (more : k < r .nol)
+    (fit : LinesFit r out₀) {to : ℕ} (typed : to ≡ otherType (r .dataType)) where
+  abbrev rest : List ℕ
+  rest = lent r k from (now .here) (now .there)
+
+  abbrev old : List ℕ
+  old = oldRow (r .scn) (r .dataType) (length row) (k + 1) rest
+
+  good-here : readingAt r k .status ≡ 0
+  good-here =
+      eqb-true (readingAt r k .status) 0 (not-false (eqb (readingAt r k .status) 0) (line-none (isRefused r) (r .nol) k more (fit .good)))
+
+  row-here : old ≡ readingAt r k .row
+  row-here =
+      ap (λ (p : ℕ). oldRow (r .scn) (r .dataType) p (k + 1) rest) (now .wide)
+      ∙ sym (ap (λ (x : Reading). x .row) (reading-is r k from (now .here) (now .there)))
+
+  line-here : newLine (r .scn) to (headOf rest) old ≡ newLineAt r k
+  line-here =
+      (λ j. newLine (r .scn) (typed j) (headOf rest) (oldRow (r .scn) (r .dataType) (now .wide j) (k + 1) rest))
+      ∙ sym (line-lent r k from (now .here) (now .there) good-here)
+
+  line-room : at + length (newLineAt r k) ≤ length out
+  line-room =
+      omega (
+        arith,
+        grows r (r .nol) (suc k) more,
+        ap length (lines-next r k),
+        length-append (newLines r k) (newLineAt r k),
+        now .at-is,
+        now .same,
+        fit .room,
+      )
+
+  pub at-within : at ≤ length out
+  at-within = omega (arith, line-room)
+
+  tail-length : length (midOf at (length out - at) out) ≡ length out - at
+  tail-length = ap length (tail-is at out) ∙ length-drop at out
+
+  same-body : wordCount (bodyBytes to (r .scn) old) .0 ≡ wordCount (bodyBytes (otherType (r .dataType)) (r .scn) (readingAt r k .row)) .0
+  same-body j = wordCount (bodyBytes (typed j) (r .scn) (row-here j)) .0
+
+  pub line-fits : LineFits (r .scn) to (headOf rest) old (midOf at (length out - at) out)
+  line-fits =
+      record {
+        eight = eight-lent r k from (now .here) (now .there) good-here;
+        room = omega (arith, line-room, tail-length, ap length line-here);
+        counted =
+            λ one.
+            let none : anyLine (isLong r) (r .nol) ≡ false = rw (eq-eqb (r .scn) 1 one) at (fit .counted) in
+            omega (
+              arith,
+              same-body,
+              ltb-false (mostWords .0) (wordCount (bodyBytes (otherType (r .dataType)) (r .scn) (readingAt r k .row)) .0)
+                  (line-none (isLong r) (r .nol) k more none),
+            );
+      }
+
+  module _ {s : LineSizes} {part : List ℕ}
+      (written : IsWritten (r .scn) (r .dataType) (length row) (k + 1) to rest (midOf at (length out - at) out) s part) where
+    used-is : s .used .0 ≡ stepOf (r .scn) (r .dataType) (r .ppl) rest .used .0
+    used-is = written .used ∙ ap (λ (p : ℕ). stepOf (r .scn) (r .dataType) p rest .used .0) (now .wide)
+
+    pub used-within : from + s .used .0 ≤ length (r .bytes)
+    used-within = omega (arith, used-is, next-within r k from (now .here) (now .there) (now .within))
+
+    pub size-within : at + s .size .0 ≤ length out
+    size-within = omega (arith, written .size, ap length line-here, line-room)
+
+    -- one scanline more
+    pub write-next : {row′ : List ℕ} → row′ ≡ old
+        → WrittenAt r (from + s .used .0) row′ out₀ (putMid at (length out - at) out part) (at + s .size .0) (k + 1)
+    write-next {row′} l =
+        let new = newLineAt r k in
+        let size : s .size .0 ≡ length new = written .size ∙ ap length line-here in
+        let p : part ≡ new ++ drop (length new) (midOf at (length out - at) out) =
+        written .out-is ∙ ap (λ (x : List ℕ). x ++ drop (length x) (midOf at (length out - at) out)) line-here in
+        let full : length part ≡ length (midOf at (length out - at) out) =
+        omega (
+          arith,
+          ap length p,
+          length-append new (drop (length new) (midOf at (length out - at) out)),
+          length-drop (length new) (midOf at (length out - at) out),
+          line-room,
+          tail-length,
+        ) in
+        subst⁻¹ (λ (n : ℕ). WrittenAt r (from + s .used .0) row′ out₀ (putMid at (length out - at) out part) (at + s .size .0) n) (add-one k)
+        (record {
+          low = more;
+          here = start-next r k from (now .here) (now .there) good-here used-is;
+          within = used-within;
+          there = reached-next r k from (now .here) (now .there) good-here;
+          wide = ap length l ∙ length-row (r .scn) (r .dataType) (length row) rest (k + 1) ∙ now .wide;
+          at-is = (λ j. now .at-is j + size j) ∙ sym (ap length (lines-next r k) ∙ length-append (newLines r k) new);
+          out-is =
+              put-next (newLines r k) new out₀ out part at (sym (now .at-is)) (now .out-is) p
+              ∙ (λ j. sym (lines-next r k) j ++ drop (at + sym size j) out₀);
+          same = same-len-mid at (length out - at) out part full ∙ now .same;
+        })
+
+-- all are written
+pub write-done : (r : Raster) (from : ℕ) (row out₀ out : List ℕ) (at k : ℕ) → WrittenAt r from row out₀ out at k → k ≡ r .nol
+    → out ≡ newLines r (r .nol) ++ drop (length (newLines r (r .nol))) out₀
+write-done r from row out₀ out at k now e =
+    now .out-is
+    ∙ ap (λ (m : ℕ). newLines r k ++ drop m out₀) (now .at-is)
+    ∙ ap (λ (m : ℕ). newLines r m ++ drop (length (newLines r m)) out₀) e
