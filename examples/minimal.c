@@ -17,7 +17,7 @@
 static const char *const REASONS[] = {
     "good", "it runs past the file", "wrong identifier", "too few words to follow",
     "wrong line number", "pixel offset past the line", "wrong count of words", "runs total too much",
-    "runs total too little", "it follows a lost line"};
+    "runs total too little", "it follows a lost line", "a spare bit is set"};
 
 /* Reads the raster of a file that is in memory, and answers 0, 1 or a rejection. */
 static uint32_t view(const uint8_t *file, size_t size, uint8_t *pixels, uint8_t *marks,

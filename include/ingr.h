@@ -1,9 +1,10 @@
 /*
  * ingr.h - reads and writes Intergraph raster files (INGR, version 3).
  *
- * For viewers of scanned plans. Data types 2 (bytes), 3 (16-bit words), 9 (run-length bi-level)
- * and 10 (run-length color) are read and written, with scanline headers and without; IGDS and
- * Environ-V color tables are read, IGDS tables are written.
+ * For viewers of scanned plans. Data types 1 (packed bi-level), 2 (bytes), 3 (16-bit words), 9
+ * (run-length bi-level) and 10 (run-length color) are read and written, with scanline headers and
+ * without; a file of type 1 is moved to type 9, and one of type 9 to type 1; IGDS and Environ-V
+ * color tables are read, IGDS tables are written.
  *
  * A damaged scanline never shows what a buffer held before, and never touches its neighbors: its
  * pixels are all zero and it has a mark that says why. Show marks to whoever relies on the image.
@@ -28,12 +29,12 @@
  * is not 2.
  *
  * There is no heap, no global state, no recursion and no input or output. A call uses at most
- * INGR_STACK bytes of stack. Calls in several threads are safe if no buffer that one of them
- * writes is another's.
+ * INGR_STACK bytes of stack, ingr_move, which has a row of pixels there, INGR_MOVE_STACK. Calls in
+ * several threads are safe if no buffer that one of them writes is another's.
  *
  * What is proved: that each function, for all numbers and contents of buffers, returns and leaves
  * behind what is written here, reads and writes nothing outside the buffers and comes to an end.
- * What is tested and not proved: the bound of the stack. What is trusted: the checker and the
+ * What is tested and not proved: the bounds of the stack. What is trusted: the checker and the
  * compiler; that each pointer and number describe memory that the caller may lend, by the rules
  * above; that this header declares what the library has. The library is for x86-64 Linux.
  *
@@ -63,7 +64,7 @@ extern "C" {
 #define INGR_HEADER_PAST_FILE 14
 /* VER is not 3. */
 #define INGR_BAD_VERSION 15
-/* The data type is not 2, 3, 9 or 10. */
+/* The data type is not 1, 2, 3, 9 or 10. */
 #define INGR_BAD_TYPE 16
 /* SLO, the orientation, is above 7. */
 #define INGR_BAD_SLO 17
@@ -84,7 +85,7 @@ extern "C" {
 #define INGR_MARKS_TOO_SHORT 24
 /* The value has no color. */
 #define INGR_NO_COLOR 25
-/* A pixel is above the highest of the data type: 255 in type 2, 1 in type 9. */
+/* A pixel is above the highest of the data type: 1 in types 1 and 9, 255 in type 2. */
 #define INGR_PIXEL_TOO_HIGH 26
 /* Some scanline's body is longer than 65,533 words, which its header cannot say. */
 #define INGR_BODY_TOO_LONG 27
@@ -92,13 +93,20 @@ extern "C" {
 #define INGR_OUTPUT_TOO_SHORT 28
 /* The answer is shorter than its numbers. */
 #define INGR_ANSWER_TOO_SHORT 29
+/* The file to be moved is neither of type 1 nor of type 9. */
+#define INGR_NOT_MOVED 30
 /* The buffer that a turning fills is shorter than PPL x NOL pixels. */
 #define INGR_FILLED_TOO_SHORT 31
+/* Some scanline of the file to be moved is refused: ingr_raster would not return 0 for it. */
+#define INGR_REFUSED_SCANLINE 41
+/* Some scanline of the file to be moved has a pixel offset that is not 0. */
+#define INGR_OFFSET_SCANLINE 42
 
 /*
  * Marks of scanlines. A scanline with a mark above 0 is refused, and its pixels are all zero. Only
- * 0, 1, 7 and 9 occur without scanline headers. A lost scanline is one after which no other can be
- * found: those marked 1, 2 or 3, and without scanline headers those marked 7.
+ * 0, 1, 7, 9 and 10 occur without scanline headers. A lost scanline is one after which no other can
+ * be found: those marked 1, 2 or 3, and without scanline headers those marked 7. If several hold,
+ * the first in this order is given: 1 (the header), 2, 3, 1 (the body), 4, 5, 6, 10, 7, 8.
  */
 
 /* The scanline is good. */
@@ -113,8 +121,8 @@ extern "C" {
 #define INGR_MARK_LINE_NUMBER 4
 /* The pixel offset, the column of the body's first pixel, is above PPL. */
 #define INGR_MARK_PIXEL_OFFSET 5
-/* The body has a wrong count of words: types 2 and 3 not what PPL less the pixel offset needs, type
- * 9 an even one, type 10 an odd one. */
+/* The body has a wrong count of words: types 1, 2 and 3 not what PPL less the pixel offset needs,
+ * type 9 an even one, type 10 an odd one. */
 #define INGR_MARK_WORD_COUNT 6
 /* Its runs total more than PPL less the pixel offset; without scanline headers, which have the
  * offset, more than PPL, and it is lost. */
@@ -123,17 +131,22 @@ extern "C" {
 #define INGR_MARK_TOTAL_BELOW 8
 /* It follows a lost scanline, so nothing is known of it. */
 #define INGR_MARK_NOT_REACHED 9
+/* In type 1, a bit of its last word that is no pixel's is set. */
+#define INGR_MARK_SPARE_BIT 10
 
 /* Sizes. */
 
-/* No call uses more bytes of stack than these, 16 KiB. */
+/* No call but ingr_move uses more bytes of stack than these, 16 KiB. */
 #define INGR_STACK 16384
+/* ingr_move uses no more than these: 65,535 pixels of two bytes, and as much as the others. */
+#define INGR_MOVE_STACK (INGR_STACK + 131072)
 
 /* The bytes of the answers. */
 #define INGR_HEADER_ANSWER 40
 #define INGR_RASTER_ANSWER 8
 #define INGR_COLOR_ANSWER 12
 #define INGR_WRITE_ANSWER 4
+#define INGR_MOVE_ANSWER 4
 
 /* The pixels of an image, and its bytes in ingr_raster. Neither overflows for PPL and NOL that a
  * header call has answered. */
@@ -143,6 +156,11 @@ extern "C" {
 /* Bytes that are enough for a file that ingr_write makes, of any type, for PPL and NOL up to
  * 65,535. No file is longer than 2,147,483,647 bytes, so no output needs to be. */
 #define INGR_WRITE_ROOM(ppl, nol) ((size_t)1536 + (size_t)(nol) * (12 + 4 * (size_t)(ppl)))
+
+/* Bytes that are enough for what ingr_move makes of a file of so many bytes, with the PPL and NOL of
+ * its header: the file's, which its header blocks are among, and for each scanline its header and a
+ * word for each pixel and two more. */
+#define INGR_MOVE_ROOM(file_size, ppl, nol) ((file_size) + (size_t)(nol) * (12 + 2 * (size_t)(ppl)))
 
 /* An IGDS color table: 256 times red, green, blue. */
 #define INGR_IGDS_TABLE 768
@@ -164,6 +182,7 @@ extern "C" {
 #define INGR_COLOR_GREEN 4
 #define INGR_COLOR_BLUE 8
 #define INGR_WRITE_LENGTH 0
+#define INGR_MOVE_LENGTH 0
 
 /* Kinds of resolution. */
 #define INGR_RESOLUTION_NONE 0
@@ -202,8 +221,8 @@ uint32_t ingr_header(const uint8_t *file, size_t file_size,
  *
  * 0: every scanline is good. 1: not every one. In both cases
  *   pixels  has the first 2 x PPL x NOL bytes written: PPL pixels of two bytes, low byte first,
- *           for each scanline in turn. In type 9 a pixel is 0 (OFF) or 1 (ON). The pixels of a
- *           refused scanline are all zero, and so are those before a scanline's pixel offset;
+ *           for each scanline in turn. In types 1 and 9 a pixel is 0 (OFF) or 1 (ON). The pixels
+ *           of a refused scanline are all zero, and so are those before a scanline's pixel offset;
  *   marks   has the first NOL bytes written: an INGR_MARK_ constant for each scanline;
  *   answer  has the first 8 bytes written: the number of scanlines that are marked 0, and the end,
  *           the byte of the file after the last scanline, or the first byte of the lost one. Bytes
@@ -287,6 +306,28 @@ uint32_t ingr_write(uint32_t type, uint32_t ppl, uint32_t nol, uint32_t slo, uin
                     const uint16_t *pixels, size_t pixel_count,
                     uint8_t *out, size_t out_size,
                     uint8_t *answer, size_t answer_size);
+
+/*
+ * ingr_move - makes a file of type 9 of one of type 1, or one of type 1 of one of type 9.
+ *
+ * Given the whole file, every scanline of which is good and starts at its row's first pixel, and
+ * the output, for which INGR_MOVE_ROOM bytes are enough.
+ *
+ * 0: the first bytes of out are the moved file, and the first 4 bytes of answer are their number.
+ * Its header blocks are those of the file but for DTC, the data type. Each scanline's header is the
+ * one that it had, but for W, words to follow, which its new body needs. The bodies are those that
+ * ingr_write makes of the same pixels. Bytes of the file after the last scanline are dropped.
+ * ingr_raster gives the same pixels of both files.
+ *
+ * Moved once more, a file of type 1 comes back byte for byte, and so does one of type 9 that has
+ * the bodies of ingr_write, if nothing follows the last scanline and neither move is rejected.
+ *
+ * Rejections: 29, then 10 to 22, 30, 41, 42, 27 (to type 9, SCN 1 only), 10 (the moved file), 28.
+ * 41 is for any scanline that is refused, and comes before 42, whichever of the two is first.
+ */
+uint32_t ingr_move(const uint8_t *file, size_t file_size,
+                   uint8_t *out, size_t out_size,
+                   uint8_t *answer, size_t answer_size);
 
 #ifdef __cplusplus
 }

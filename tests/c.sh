@@ -37,7 +37,7 @@ size_t alone(const uint8_t *bytes);
 size_t alone(const uint8_t *bytes)
 {
     return INGR_NUMBER(bytes, INGR_HEADER_PPL) + INGR_PIXEL(bytes, 1) + INGR_PIXEL_BYTES(2, 3) +
-           INGR_WRITE_ROOM(2, 3) + ingr_header(bytes, 0, NULL, 0);
+           INGR_WRITE_ROOM(2, 3) + INGR_MOVE_ROOM(1024, 2, 3) + INGR_MOVE_STACK + ingr_header(bytes, 0, NULL, 0);
 }
 END
 cp "$room/alone.c" "$room/alone.cc"
@@ -87,7 +87,7 @@ expected() {
     awk -v colors="$room/colors" '
         BEGIN {
             split("it runs past the file|wrong identifier|too few words to follow|wrong line number|pixel offset past the line|wrong count of words|" \
-                "runs total too much|runs total too little|it follows a lost line", reason, "|")
+                "runs total too much|runs total too little|it follows a lost line|a spare bit is set", reason, "|")
             while ((getline line <colors) > 0) { split(line, part, ": "); color[part[1]] = part[2] }
         }
         NR == 1 && $1 == "refused" { print "rejected " $2; print "status 2"; exit }
@@ -136,6 +136,32 @@ head -c 1024 samples/gray.cot >"$room/huge.cot"
 printf '\377\377\0\0\377\377\0\0' | dd of="$room/huge.cot" bs=1 seek=184 conv=notrunc status=none
 no_room() { [ "$("$room/minimal_gcc" "$room/huge.cot"; echo $?)" = "no room for 65535 x 65535 pixels"$'\n'2 ]; }
 try "65,535 x 65,535 pixels in 1,024 bytes" no_room
+
+# The move by its example: samples and the peer's bi-level sheet to the other type and back, and files that are rejected.
+for compiler in gcc clang; do
+    try "the move, without a warning, $compiler" "$compiler" -std=c99 -O2 "${strict[@]}" -Itarget/c examples/move.c target/c/libingr.a -o "$room/move_$compiler"
+done
+becomes() { "$room/move_gcc" "$1" "$room/moved" && cmp "$room/moved" "$2"; }
+# There and back, with the rows of the listing as they were.
+rows() { "$second" fake-listing <"$1" | tail -n +2; }
+returns() {
+    "$room/move_gcc" "$1" "$room/moved" && "$room/move_clang" "$room/moved" "$room/back" && cmp "$1" "$room/back" && ! cmp -s "$1" "$room/moved" &&
+        rows "$1" >"$room/right" && [ -s "$room/right" ] && rows "$room/moved" | cmp "$room/right" -
+}
+try "samples/boundary.rle moves to samples/boundary_packed.dat" becomes samples/boundary.rle samples/boundary_packed.dat
+try "samples/boundary_packed.dat moves to samples/boundary.rle" becomes samples/boundary_packed.dat samples/boundary.rle
+for file in samples/boundary.rle samples/boundary_open.rle samples/boundary_packed.dat samples/sideways.rle tests/peer/bilevel.rle; do
+    try "$file moves there and back" returns "$file"
+done
+# Prints a rejection, ends with status 1 and writes nothing.
+rejected() { rm -f "$room/moved" && [ "$("$room/move_gcc" "$2" "$room/moved"; echo $?)" = "rejected $1"$'\n'1 ] && [ ! -e "$room/moved" ]; }
+try "a file of type 2 is not moved" rejected 30 samples/gray.cot
+try "a file of type 10 with a lost line is not moved" rejected 30 samples/cut.crl
+try "a damaged file is not moved" rejected 41 samples/boundary_damaged.rle
+try "a file with a spare bit is not moved" rejected 41 samples/packed_damaged.dat
+try "a file with offsets is not moved" rejected 42 samples/margin.rle
+: >"$room/empty"
+try "an empty file is not moved" rejected 11 "$room/empty"
 
 # Files that are cut off, under valgrind.
 cut_sample=samples/boundary_damaged.rle

@@ -3,7 +3,8 @@
  * buffers that are just long enough and end where memory that may be touched ends; then with longer
  * ones at odd addresses, and with ones that are too short. Compared: that both give the same, that
  * nothing past what is written changes, that a rejected call changes nothing, and that what was
- * read is written, turned and turned back as it was. Exit status 0 where all is so.
+ * read is written, turned and turned back as it was; and that a file that is moved reads as it did
+ * and comes back. Exit status 0 where all is so.
  */
 #define _GNU_SOURCE /* MAP_ANONYMOUS */
 #include <stdio.h>
@@ -119,7 +120,7 @@ static uint32_t raster(const uint8_t *file, size_t size, size_t bytes, size_t no
         int blank = 1;
         for (size_t i = 0; i < bytes / nol; i++)
             blank = blank && pixels[k * (bytes / nol) + i] == 0;
-        check(marks[k] == INGR_MARK_GOOD || (marks[k] <= INGR_MARK_NOT_REACHED && blank), "a refused scanline");
+        check(marks[k] == INGR_MARK_GOOD || (marks[k] <= INGR_MARK_SPARE_BIT && blank), "a refused scanline");
         good += marks[k] == INGR_MARK_GOOD;
     }
     check(INGR_NUMBER(answer, INGR_RASTER_GOOD) == good && (result == 0) == (good == nol), "the good scanlines");
@@ -173,6 +174,57 @@ static void turned(uint32_t ppl, uint32_t nol)
     }
 }
 
+/* Moves a file; answers whether it was moved, to before the output's edge. */
+static int move(const uint8_t *file, size_t size, size_t room, size_t *moved)
+{
+    uint8_t *answer = last(answer_edge, INGR_MOVE_ANSWER), *out = last(out_edge, room);
+    const uint32_t result = ingr_move(file, size, out, room, answer, INGR_MOVE_ANSWER);
+    check(result == 0 || (result >= 10 && result <= 22) || result == INGR_BODY_TOO_LONG ||
+              result == INGR_NOT_MOVED || result == INGR_REFUSED_SCANLINE || result == INGR_OFFSET_SCANLINE,
+          "a move's number");
+    check(result == 0 || (untouched(out, room) && untouched(answer, INGR_MOVE_ANSWER)), "a rejected move");
+    check(ingr_move(file, size, NULL, 0, NULL, 0) == INGR_ANSWER_TOO_SHORT, "a move with no answer");
+    if (result != 0) {
+        check(ingr_move(file, size, NULL, 0, answer, INGR_MOVE_ANSWER) == result, "a rejected move with no output");
+        return 0;
+    }
+    *moved = INGR_NUMBER(answer, INGR_MOVE_LENGTH);
+    check(*moved <= room && untouched(out + *moved, room - *moved), "what lies past a moved file");
+    static uint8_t once[ROOM];
+    memcpy(once, out, *moved);
+    out = last(out_edge, *moved);
+    check(ingr_move(file, size, out, *moved - 1, answer, INGR_MOVE_ANSWER) == INGR_OUTPUT_TOO_SHORT &&
+              ingr_move(file, size, out, *moved, answer, INGR_MOVE_ANSWER - 1) == INGR_ANSWER_TOO_SHORT &&
+              untouched(out, *moved),
+          "a move with short buffers");
+    check(ingr_move(file, size, out, *moved, answer, INGR_MOVE_ANSWER) == 0 && memcmp(out, once, *moved) == 0,
+          "a move to an output that is just long enough");
+    return 1;
+}
+
+/* Moves a file there and back. Its pixels are before their edge, if every scanline is good. */
+static void moved_and_back(const uint8_t *whole, size_t size, uint32_t type, uint32_t ppl, uint32_t nol, int good)
+{
+    const size_t bytes = INGR_PIXEL_BYTES(ppl, nol), room = INGR_MOVE_ROOM(size, ppl, nol);
+    uint8_t *file = memcpy(file_edge - size, whole, size);
+    size_t there, back;
+    if (!move(file, size, room, &there))
+        return;
+    check(good && (type == 1 || type == 9), "a file that should not be moved");
+    file = memcpy(file_edge - there, out_edge - there, there);
+    check(ingr_raster(file, there, more_pixels, bytes, more_marks, nol, more_answer, sizeof more_answer) == 0 &&
+              memcmp(more_pixels, pixel_edge - bytes, bytes) == 0 &&
+              INGR_NUMBER(more_answer, INGR_RASTER_END) == there,
+          "reading a moved file");
+    check(move(file, there, room, &back), "moving back");
+    if (type == 1) /* nothing but what follows the last scanline is gone */
+        check(back <= size && memcmp(out_edge - back, whole, back) == 0, "what comes back of type 1");
+    file = memcpy(file_edge - back, out_edge - back, back);
+    check(ingr_raster(file, back, more_pixels, bytes, more_marks, nol, more_answer, sizeof more_answer) == 0 &&
+              memcmp(more_pixels, pixel_edge - bytes, bytes) == 0,
+          "reading what came back");
+}
+
 /* 10, with memory that is only ever read and so takes no room: a file of 2,147,483,647 bytes and one
  * of a byte more, and pixels of which as long a file would be written. */
 static void longest(void)
@@ -189,7 +241,8 @@ static void longest(void)
     check(ingr_header(zeros, most, answer, sizeof answer) == INGR_BAD_HTC, "the longest file");
     check(ingr_header(zeros, most + 1, answer, sizeof answer) == INGR_FILE_TOO_LONG &&
               ingr_color(zeros, most + 1, 0, answer, sizeof answer) == INGR_FILE_TOO_LONG &&
-              ingr_raster(zeros, most + 1, NULL, 0, NULL, 0, answer, sizeof answer) == INGR_FILE_TOO_LONG,
+              ingr_raster(zeros, most + 1, NULL, 0, NULL, 0, answer, sizeof answer) == INGR_FILE_TOO_LONG &&
+              ingr_move(zeros, most + 1, NULL, 0, answer, sizeof answer) == INGR_FILE_TOO_LONG,
           "a file that is too long");
     const uint16_t *pixels = (const uint16_t *)(void *)zeros;
     check(ingr_write(3, ppl, nol, 0, 0, 0, NULL, 0, pixels, INGR_PIXELS(ppl, nol), NULL, 0, answer, sizeof answer) ==
@@ -221,11 +274,12 @@ int main(int argc, char **argv)
             if (rejected != 0)
                 continue;
             const uint32_t ppl = INGR_NUMBER(head, INGR_HEADER_PPL), nol = INGR_NUMBER(head, INGR_HEADER_NOL);
-            raster(file, size, INGR_PIXEL_BYTES(ppl, nol), nol);
+            const uint32_t type = INGR_NUMBER(head, INGR_HEADER_TYPE);
+            const int good = raster(file, size, INGR_PIXEL_BYTES(ppl, nol), nol) == 0;
+            moved_and_back(whole, size, type, ppl, nol, good);
             if (size < full)
                 continue;
-            written(INGR_NUMBER(head, INGR_HEADER_TYPE), ppl, nol, INGR_NUMBER(head, INGR_HEADER_SLO),
-                    INGR_NUMBER(head, INGR_HEADER_SCN));
+            written(type, ppl, nol, INGR_NUMBER(head, INGR_HEADER_SLO), INGR_NUMBER(head, INGR_HEADER_SCN));
             turned(ppl, nol);
         }
     }

@@ -1,8 +1,9 @@
 /*
- * Shows the bound of the stack: the calls of ingr.h, on rasters of the widest lines, in threads
- * that have INGR_STACK bytes of stack, the thread's own among them, and nothing below but memory
- * that may not be touched. What is written is read back and turned, and compared. The last line
- * is the deepest use that was seen; exit status 0 where all is right.
+ * Shows the bounds of the stack: the calls of ingr.h, on rasters of the widest lines, in threads
+ * that have INGR_STACK bytes of stack, for ingr_move INGR_MOVE_STACK, the thread's own among them,
+ * and nothing below but memory that may not be touched. What is written is read back, turned, moved
+ * and moved back, and compared. The last line is the deepest use that was seen of either; exit
+ * status 0 where all is right.
  */
 #define _GNU_SOURCE /* MAP_ANONYMOUS */
 #include <pthread.h>
@@ -20,15 +21,18 @@ static const unsigned char UNTOUCHED = 0xA5;
 /* What a thread is given, and what its call returned. */
 static struct {
     uint32_t type, scn, result;
-    uint8_t *file, *marks, answer[INGR_HEADER_ANSWER];
-    size_t file_size;
+    uint8_t *file, *moved, *back, *marks, answer[INGR_HEADER_ANSWER];
+    size_t file_size, moved_size, back_size;
     uint16_t *picture, *pixels, *upright;
 } job;
 
 static struct {
     const char *call;
     size_t bytes;
-} deepest;
+} deepest, deepest_move;
+
+/* Room for what is moved: a word for each pixel at most, and headers. */
+static const size_t MOVE_ROOM = INGR_MOVE_ROOM((size_t)1024, PPL, NOL);
 
 static void *do_write(void *none)
 {
@@ -70,6 +74,20 @@ static void *do_turn_back(void *none)
     return none;
 }
 
+static void *do_move(void *none)
+{
+    job.result = ingr_move(job.file, job.file_size, job.moved, MOVE_ROOM, job.answer, sizeof job.answer);
+    job.moved_size = INGR_NUMBER(job.answer, INGR_MOVE_LENGTH);
+    return none;
+}
+
+static void *do_move_back(void *none)
+{
+    job.result = ingr_move(job.moved, job.moved_size, job.back, MOVE_ROOM, job.answer, sizeof job.answer);
+    job.back_size = INGR_NUMBER(job.answer, INGR_MOVE_LENGTH);
+    return none;
+}
+
 static void *memory(size_t size)
 {
     void *at = mmap(NULL, size, PROT_READ | PROT_WRITE, MAP_PRIVATE | MAP_ANONYMOUS, -1, 0);
@@ -80,31 +98,49 @@ static void *memory(size_t size)
     return at;
 }
 
-/* Runs a call in a thread of its own, and answers whether it returned 0. */
-static int run(const char *name, void *(*call)(void *))
+/* Runs a call in a thread of its own that has so much stack; answers how much of it was used. */
+static size_t used(const char *name, void *(*call)(void *), size_t size)
 {
-    unsigned char *below = memory(GUARD + INGR_STACK), *stack = below + GUARD;
+    unsigned char *below = memory(GUARD + size), *stack = below + GUARD;
     pthread_attr_t attributes;
     pthread_t thread;
     size_t untouched = 0;
     job.result = 99;
-    memset(stack, UNTOUCHED, INGR_STACK);
+    memset(stack, UNTOUCHED, size);
     if (mprotect(below, GUARD, PROT_NONE) != 0 || pthread_attr_init(&attributes) != 0 ||
-        pthread_attr_setstack(&attributes, stack, INGR_STACK) != 0 ||
+        pthread_attr_setstack(&attributes, stack, size) != 0 ||
         pthread_create(&thread, &attributes, call, NULL) != 0 || pthread_join(thread, NULL) != 0) {
         fprintf(stderr, "c_stack: %s: no thread\n", name);
         exit(1);
     }
     pthread_attr_destroy(&attributes);
-    while (untouched < INGR_STACK && stack[untouched] == UNTOUCHED)
+    while (untouched < size && stack[untouched] == UNTOUCHED)
         untouched++;
-    if (INGR_STACK - untouched > deepest.bytes) {
-        deepest.call = name;
-        deepest.bytes = INGR_STACK - untouched;
-    }
-    munmap(below, GUARD + INGR_STACK);
+    munmap(below, GUARD + size);
     if (job.result != 0)
         printf("c_stack: type %u, SCN %u: %s returns %u\n", job.type, job.scn, name, job.result);
+    return size - untouched;
+}
+
+/* Runs a call, and answers whether it returned 0. */
+static int run(const char *name, void *(*call)(void *))
+{
+    const size_t bytes = used(name, call, INGR_STACK);
+    if (bytes > deepest.bytes) {
+        deepest.call = name;
+        deepest.bytes = bytes;
+    }
+    return job.result == 0;
+}
+
+/* The same for a move. */
+static int run_move(const char *name, void *(*call)(void *))
+{
+    const size_t bytes = used(name, call, INGR_MOVE_STACK);
+    if (bytes > deepest_move.bytes) {
+        deepest_move.call = name;
+        deepest_move.bytes = bytes;
+    }
     return job.result == 0;
 }
 
@@ -130,6 +166,21 @@ static int round_trip(uint32_t type, uint32_t scn, uint32_t highest)
     memset(job.pixels, 0xEE, sizeof *job.pixels * COUNT);
     return run("ingr_turn_back", do_turn_back) &&
            memcmp(job.pixels, job.picture, sizeof *job.pixels * COUNT) == 0;
+}
+
+/* Whether the same is moved to the other type, reads as it did, and comes back as it was. */
+static int moved_trip(uint32_t type, uint32_t scn)
+{
+    uint8_t *file = job.file;
+    if (!round_trip(type, scn, 1) || !run_move("ingr_move", do_move) || !run_move("ingr_move, back", do_move_back) ||
+        job.back_size != job.file_size || memcmp(job.back, job.file, job.file_size) != 0)
+        return 0;
+    memset(job.pixels, 0xEE, sizeof *job.pixels * COUNT);
+    job.file = job.moved;
+    job.file_size = job.moved_size;
+    const int read = run("ingr_raster", do_raster);
+    job.file = file;
+    return read && memcmp(job.pixels, job.picture, sizeof *job.pixels * COUNT) == 0;
 }
 
 /* The calls that look at a color table, on an Environ-V table of 256 entries: type 2, all zeros. */
@@ -158,17 +209,19 @@ static int with_table(void)
 int main(void)
 {
     job.file = memory(INGR_WRITE_ROOM(PPL, NOL));
+    job.moved = memory(MOVE_ROOM);
+    job.back = memory(MOVE_ROOM);
     job.marks = memory(NOL);
     job.picture = memory(INGR_PIXEL_BYTES(PPL, NOL));
     job.pixels = memory(INGR_PIXEL_BYTES(PPL, NOL));
     job.upright = memory(INGR_PIXEL_BYTES(PPL, NOL));
     /* Lines of type 3 that are so wide have no scanline headers. */
     const int right = round_trip(2, 0, 255) && round_trip(2, 1, 255) && round_trip(3, 0, 65535) &&
-                      round_trip(9, 0, 1) && round_trip(9, 1, 1) && round_trip(10, 0, 65535) &&
-                      round_trip(10, 1, 65535) && with_table();
+                      moved_trip(1, 0) && moved_trip(1, 1) && moved_trip(9, 0) && moved_trip(9, 1) &&
+                      round_trip(10, 0, 65535) && round_trip(10, 1, 65535) && with_table();
     if (!right)
         printf("c_stack: type %u, SCN %u: not as it should be\n", job.type, job.scn);
-    printf("c_stack: at most %zu of %d bytes, in %s, the thread's own among them\n", deepest.bytes,
-           INGR_STACK, deepest.call);
+    printf("c_stack: at most %zu of %d bytes, in %s, and %zu of %d, in %s, the thread's own among them\n",
+           deepest.bytes, INGR_STACK, deepest.call, deepest_move.bytes, INGR_MOVE_STACK, deepest_move.call);
     return right ? 0 : 1;
 }

@@ -7,7 +7,9 @@ use Rattle.color.specs.Color.{ColorNumbers, colorReading}
 use Rattle.layout.specs.Reading.{RasterNumbers}
 use Rattle.layout.specs.PixelBytes.{bytesReading}
 use Rattle.encode_header.specs.Picture.{Picture}
-use Rattle.encode_raster.specs.Writing.{WriteNumbers, writing}
+use Rattle.encode_raster.specs.Writing.{writing}
+use Rattle.encode_answer.specs.Sizes.{WriteNumbers}
+use Rattle.transcode.specs.Transcoding.{transcoding}
 use Rattle.answers.specs.Answer.{Call}
 
 -- type, blocks, PPL, NOL, resolution ("0 none, 1 microns or 2 dots and then its size"), SLO, SCN, CTV and CTE
@@ -43,7 +45,7 @@ writeSize = 4
 abbrev pub writeCall : WriteNumbers → Call
 writeCall w = record { result = w .number; numbers = w .size ∷ [] }
 
--- the calls of a file and of a picture
+-- the calls of a file and of a picture. Moving a sheet to the other type is a call that writes.
 abbrev pub cHeader : List ℕ → Call
 cHeader f = headerCall (headerReading f)
 
@@ -55,3 +57,6 @@ cColor f v = colorCall (colorReading f v)
 
 abbrev pub cWrite : Picture → ℕ → Call
 cWrite i room = writeCall (writing i room)
+
+abbrev pub cMove : List ℕ → ℕ → Call
+cMove f room = writeCall (transcoding f room)

@@ -4,7 +4,7 @@ use lib.ListN.{length}
 use Rattle.header.specs.Reading.{HeaderNumbers}
 use Rattle.color.specs.Color.{ColorNumbers}
 use Rattle.layout.specs.Reading.{RasterNumbers}
-use Rattle.encode_raster.specs.Writing.{WriteNumbers}
+use Rattle.encode_answer.specs.Sizes.{WriteNumbers}
 use Rattle.answers.specs.Answer.{numberBytes}
 use Rattle.capi.specs.Calls.{headerSize, headerCall, rasterSize, rasterCall, colorSize, colorCall, writeSize, writeCall}
 

@@ -1,10 +1,11 @@
-// The library for programs in C: reading a header, a raster and a color, writing a raster, and turning one.
+// The library for programs in C: reading a header, a raster and a color, writing a raster, moving one to another data type, and turning
+// one.
 //
 // Each function is one call of the library, on numbers and slices. The result is the paper's answer number. Its other numbers are
 // stored in the answer slice, four bytes each, low byte first. A rejected call changes no byte that it is lent, and the first rejection
 // is 29, for an answer slice that is too short.
 ghost use mathlib.Core.Path.{_≡_};
-ghost use Prim.Native.Nat.{_%_};
+ghost use Prim.Native.Nat.{_%_, _≤_};
 ghost use lib.ListN.{length};
 ghost use Rattle.units.specs.Over.{over};
 ghost use Rattle.header.specs.Resolution.{resolutionNumbers};
@@ -13,15 +14,19 @@ ghost use Rattle.header.specs.declared.reading.HeaderAnswer.the-variants.{Accep
 ghost use Rattle.color.specs.Color.{colorNumbers, color};
 ghost use Rattle.layout.specs.PixelBytes.{pixelBytesAfter, byteMarksAfter};
 ghost use Rattle.orient.specs.Turning.{turnRejection, uprightAfter, pixelsAfter};
+ghost use Rattle.encode_answer.specs.Answer.{writeNumbers};
 ghost use Rattle.encode_raster.specs.Writing.{outAfter};
 ghost use Rattle.encode_raster.specs.Answer.{picture};
+ghost use Rattle.transcode.specs.Transcoding.{outTranscoded};
 ghost use Rattle.answers.specs.Answer.{numberBytes, resultOf, answerAfter, unlessShort};
-ghost use Rattle.capi.specs.Calls.{headerSize, headerCall, cHeader, rasterSize, cRaster, colorSize, colorCall, cColor, writeSize, cWrite};
+ghost use Rattle.capi.specs.Calls.{headerSize, headerCall, cHeader, rasterSize, cRaster, colorSize, colorCall, cColor, writeSize, writeCall, cWrite, cMove};
+ghost use Rattle.capi.specs.laws.Writing.{Told};
 use answers::store_numbers;
 use color::ColorAnswer;
 use color::Rgb;
 use color::color_of;
 use decode_raster_bytes::read_raster_bytes;
+use encode_answer::WriteAnswer;
 use encode_raster::write_raster;
 use header::Header;
 use header::HeaderAnswer;
@@ -29,6 +34,7 @@ use header::Resolution;
 use header::read_header;
 use orient::turn;
 use orient::turn_back;
+use transcode::transcode;
 
 // The bytes of each call's numbers, and the rejection of a slice that is shorter.
 const HEADER_SIZE: usize = 40;
@@ -230,6 +236,30 @@ pub extern "C" fn ingr_write(
     }
     let bits = (drs % 65536) as u16;
     let written = write_raster(dtc, ppl, nol, slo, scn, bits, table, pixels, out);
+    store_written(written, answer)
+}
+
+// Moves the raster of a file from data type 1 to type 9, or from type 9 to type 1.
+#[no_mangle]
+pub extern "C" fn ingr_move(file: &[u8], out: &mut [u8], answer: &mut [u8]) -> u32
+    ensures { λ r. ⌜ r ≡ resultOf writeSize (cMove (now (file .entry)) (length (now (out .entry)))) (now (answer .entry)) ⌝ }
+    ensures { λ r. ⌜ now (answer .exit) ≡ answerAfter writeSize (cMove (now (file .entry)) (length (now (out .entry)))) (now (answer .entry)) ⌝ }
+    ensures { λ r. ⌜ now (out .exit) ≡ unlessShort writeSize (now (answer .entry)) (now (out .entry)) (outTranscoded (now (file .entry)) (now (out .entry))) ⌝ }
+{
+    if answer.len() < WRITE_SIZE {
+        return TOO_SHORT;
+    }
+    let written = transcode(file, out);
+    store_written(written, answer)
+}
+
+// The result of a call that writes a file. Where it is not rejected the written length is stored.
+fn store_written(written: WriteAnswer, answer: &mut [u8]) -> u32
+    requires { ⌜ writeSize ≤ length (now answer) ⌝ }
+    requires { ⌜ Told written ⌝ }
+    ensures { λ r. ⌜ r ≡ resultOf writeSize (writeCall (writeNumbers written)) (now (answer .entry)) ⌝ }
+    ensures { λ _. ⌜ now (answer .exit) ≡ answerAfter writeSize (writeCall (writeNumbers written)) (now (answer .entry)) ⌝ }
+{
     if written.number != 0 {
         return written.number as u32;
     }

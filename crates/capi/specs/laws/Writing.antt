@@ -1,38 +1,36 @@
--- The writer's call where the answer slice is long enough: rejected, or done.
+-- A call that writes a file where the answer slice is long enough: rejected, or done.
 use Prim.Native.Nat.{ℕ, _≤_}
-use mathlib.Core.Path.{_≡_, sym, _∙_, ap}
+use mathlib.Core.Path.{_≡_, refl, sym, _∙_}
 use mathlib.Core.List.{List, [], _∷_}
 use native.Mathlib.Omega.{arith}
 use lib.ListN.{length}
 use Rattle.units.specs.Over.{over}
-use Rattle.encode_header.specs.Picture.{Picture}
-use Rattle.encode_raster.specs.declared.WriteAnswer.{WriteAnswer}
-use Rattle.encode_raster.specs.Writing.{WriteNumbers, writing, outAfter}
-use Rattle.encode_raster.specs.Answer.{writeNumbers}
-use Rattle.encode_raster.specs.laws.Call.{number-from}
+use Rattle.encode_answer.specs.declared.WriteAnswer.{WriteAnswer}
+use Rattle.encode_answer.specs.Sizes.{WriteNumbers}
+use Rattle.encode_answer.specs.Answer.{writeNumbers}
 use Rattle.answers.specs.Answer.{numberBytes, resultOf, answerAfter, unlessShort}
-use Rattle.answers.specs.laws.Call.{rejected, stored, changed-if-long}
-use Rattle.capi.specs.Calls.{writeSize, cWrite}
+use Rattle.answers.specs.laws.Call.{Answered, rejected, stored, changed-if-long}
+use Rattle.capi.specs.Calls.{writeSize, writeCall}
 
--- the result, the answer slice and the output
-abbrev pub Wrote : Picture → List ℕ → List ℕ → ℕ → List ℕ → List ℕ → Type 0
-Wrote i out answer r answer′ out′ =
-    (r ≡ resultOf writeSize (cWrite i (length out)) answer)
-    × ((answer′ ≡ answerAfter writeSize (cWrite i (length out)) answer)
-    × (out′ ≡ unlessShort writeSize answer out (outAfter i out)))
+-- a rejection's number is 10 or above, and a length is a number of 32 bits
+pub record Told (w : WriteAnswer) : Type 0 where
+  pub number-from : (w .number ≡ 0 → ⊥) → 10 ≤ w .number
+  pub size-most : w .number ≡ 0 → w .size .0 ≤ 2147483647
 
-module _ (i : Picture) (out answer : List ℕ) (w : WriteAnswer) {out′ : List ℕ} (numbers : writeNumbers w ≡ writing i (length out))
-    (output : out′ ≡ outAfter i out) (enough : writeSize ≤ length answer) where
-  result : w .number ≡ writing i (length out) .number
-  result = ap (λ (x : WriteNumbers). x .number) numbers
+module _ (w : WriteAnswer) (answer : List ℕ) (enough : writeSize ≤ length answer) (told : Told w) where
+  pub write-rejected : (w .number ≡ 0 → ⊥) → Answered writeSize (writeCall (writeNumbers w)) answer (w .number) answer
+  write-rejected some = rejected writeSize (writeCall (writeNumbers w)) answer enough refl (told .number-from some)
 
-  pub write-rejected : (w .number ≡ 0 → ⊥) → Wrote i out answer (w .number) answer out′
-  write-rejected some =
-      let t = rejected writeSize (cWrite i (length out)) answer enough result (number-from i (length out) w numbers some) in
-      (t .0, (t .1, changed-if-long writeSize answer out (outAfter i out) enough output))
+  pub write-done : w .number ≡ 0 → {answer′ : List ℕ} → answer′ ≡ over (numberBytes (w .size .0 ∷ [])) answer
+      → Answered writeSize (writeCall (writeNumbers w)) answer 0 answer′
+  write-done none e = stored writeSize (writeCall (writeNumbers w)) answer enough (sym none) (omega arith) e
 
-  pub write-done : w .number ≡ 0 → {answer′ : List ℕ} → answer′ ≡ over (numberBytes (w .size .0 ∷ [])) answer → Wrote i out answer 0 answer′ out′
-  write-done none e =
-      let size = ap (λ (x : WriteNumbers). over (numberBytes (x .size ∷ [])) answer) numbers in
-      let t = stored writeSize (cWrite i (length out)) answer enough (sym none ∙ result) (omega arith) (e ∙ size) in
-      (t .0, (t .1, changed-if-long writeSize answer out (outAfter i out) enough output))
+-- the result, the answer slice and the output of a call with these numbers
+pub wrote : {w : WriteAnswer} {n : WriteNumbers} → writeNumbers w ≡ n → (answer out : List ℕ) → writeSize ≤ length answer → {after out′ : List ℕ} → out′ ≡ after
+    → {r : ℕ} {answer′ : List ℕ} → Answered writeSize (writeCall (writeNumbers w)) answer r answer′
+    → (r ≡ resultOf writeSize (writeCall n) answer)
+    × ((answer′ ≡ answerAfter writeSize (writeCall n) answer) × (out′ ≡ unlessShort writeSize answer out after))
+wrote numbers answer out enough {after} output x = (
+  x .0 ∙ (λ j. resultOf writeSize (writeCall (numbers j)) answer),
+  (x .1 ∙ (λ j. answerAfter writeSize (writeCall (numbers j)) answer), changed-if-long writeSize answer out after enough output),
+)
