@@ -48,6 +48,9 @@ try "two samples list as the README shows them" diff "$room/both" <(sed -n '/^  
 "$copy/target/bin/listing" <"$copy/samples/boundary.rle" >"$room/whole"
 "$copy/target/bin/listing" <"$copy/samples/margin.rle" >"$room/skipped"
 try "the sample with its margin skipped lists as the whole one" cmp "$room/whole" "$room/skipped"
+# The packed one is shorter, and says so in its first line.
+"$copy/target/bin/listing" <"$copy/samples/boundary_packed.dat" | tail -n +2 >"$room/packed"
+try "the packed sample has the rows of the other" cmp <(tail -n +2 "$room/whole") "$room/packed"
 
 list "$copy" ./list samples/boundary_damaged.rle
 try "a file, and nothing but its listing" listed

@@ -57,6 +57,14 @@ extern "C" {
         answer: *mut u8,
         answer_len: usize,
     ) -> u32;
+    fn ingr_move(
+        file: *const u8,
+        file_len: usize,
+        out: *mut u8,
+        out_len: usize,
+        answer: *mut u8,
+        answer_len: usize,
+    ) -> u32;
 }
 
 const LIBRARY: Calls = Calls {
@@ -66,6 +74,7 @@ const LIBRARY: Calls = Calls {
     turn: ingr_turn,
     turn_back: ingr_turn_back,
     write: ingr_write,
+    transcode: ingr_move,
 };
 
 fn main() -> ExitCode {

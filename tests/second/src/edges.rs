@@ -1,4 +1,5 @@
-//! "Sheets at the edges", and a sheet turned: inputs and outcomes written out by hand.
+//! "Sheets at the edges", packed sheets, a sheet turned, and sheets moved: inputs and outcomes written
+//! out by hand.
 
 use crate::gen::picture::Picture;
 use crate::gen::put;
@@ -46,7 +47,7 @@ fn edge(name: &'static str, file: Vec<u8>, printed: &'static str) -> Edge {
 }
 
 pub fn edges() -> Vec<Edge> {
-    [usual_edges(), partway_edges()].concat()
+    [usual_edges(), partway_edges(), packed_edges()].concat()
 }
 
 fn usual_edges() -> Vec<Edge> {
@@ -517,6 +518,150 @@ fn partway_edges() -> Vec<Edge> {
     ]
 }
 
+/// Type 1. Words are written as they read, the leftmost pixel first: 1800h is 0001 1000 0000 0000.
+fn packed_edges() -> Vec<Edge> {
+    vec![
+        edge(
+            "P 8",
+            starting(1, 8, &[(0, &[0x1800]), (0, &[0xFF00]), (0, &[0x8100])]),
+            "type 1 pixels 8 lines 3 answer 0 good 3 end 1054\n\
+             1 0: 0 0 0 1 1 0 0 0\n\
+             2 0: 1 1 1 1 1 1 1 1\n\
+             3 0: 1 0 0 0 0 0 0 1\n",
+        ),
+        edge(
+            "P 8, byte by byte: the first pixel is the top of the second byte",
+            [head(1, 8, 1, WITHOUT), vec![0x00, 0x80]].concat(),
+            "type 1 pixels 8 lines 1 answer 0 good 1 end 1026\n1 0: 1 0 0 0 0 0 0 0\n",
+        ),
+        edge(
+            "P 16",
+            with_words(1, 16, 2, WITHOUT, &[0x8001, 0x00FF]),
+            "type 1 pixels 16 lines 2 answer 0 good 2 end 1028\n\
+             1 0: 1 0 0 0 0 0 0 0 0 0 0 0 0 0 0 1\n\
+             2 0: 0 0 0 0 0 0 0 0 1 1 1 1 1 1 1 1\n",
+        ),
+        edge(
+            "P 17",
+            with_words(1, 17, 2, WITHOUT, &[0x0001, 0x8000, 0xFFFF, 0x0000]),
+            "type 1 pixels 17 lines 2 answer 0 good 2 end 1032\n\
+             1 0: 0 0 0 0 0 0 0 0 0 0 0 0 0 0 0 1 1\n\
+             2 0: 1 1 1 1 1 1 1 1 1 1 1 1 1 1 1 1 0\n",
+        ),
+        edge(
+            "P 17, with headers and other counts of words",
+            starting(
+                1,
+                17,
+                &[(0, &[0x0001, 0x8000]), (0, &[0x0001]), (0, &[0, 0, 0]), (0, &[]), (0, &[0, 0])],
+            ),
+            "type 1 pixels 17 lines 5 answer 1 good 2 end 1080\n\
+             1 0: 0 0 0 0 0 0 0 0 0 0 0 0 0 0 0 1 1\n\
+             2 6: 0 0 0 0 0 0 0 0 0 0 0 0 0 0 0 0 0\n\
+             3 6: 0 0 0 0 0 0 0 0 0 0 0 0 0 0 0 0 0\n\
+             4 6: 0 0 0 0 0 0 0 0 0 0 0 0 0 0 0 0 0\n\
+             5 0: 0 0 0 0 0 0 0 0 0 0 0 0 0 0 0 0 0\n",
+        ),
+        edge(
+            "spare bits",
+            starting(1, 8, &[(0, &[0x1880]), (0, &[0x1801]), (0, &[0x18FF]), (0, &[0x1800])]),
+            "type 1 pixels 8 lines 4 answer 1 good 1 end 1064\n\
+             1 10: 0 0 0 0 0 0 0 0\n\
+             2 10: 0 0 0 0 0 0 0 0\n\
+             3 10: 0 0 0 0 0 0 0 0\n\
+             4 0: 0 0 0 1 1 0 0 0\n",
+        ),
+        edge(
+            "spare bits, no headers: the chain goes on",
+            with_words(1, 8, 4, WITHOUT, &[0x1880, 0x1800, 0x0001, 0xFF00]),
+            "type 1 pixels 8 lines 4 answer 1 good 2 end 1032\n\
+             1 10: 0 0 0 0 0 0 0 0\n\
+             2 0: 0 0 0 1 1 0 0 0\n\
+             3 10: 0 0 0 0 0 0 0 0\n\
+             4 0: 1 1 1 1 1 1 1 1\n",
+        ),
+        edge(
+            "no headers, a spare bit and then nothing",
+            with_words(1, 17, 3, WITHOUT, &[0xFFFF, 0xC000, 0xFFFF]),
+            "type 1 pixels 17 lines 3 answer 1 good 0 end 1028\n\
+             1 10: 0 0 0 0 0 0 0 0 0 0 0 0 0 0 0 0 0\n\
+             2 1: 0 0 0 0 0 0 0 0 0 0 0 0 0 0 0 0 0\n\
+             3 9: 0 0 0 0 0 0 0 0 0 0 0 0 0 0 0 0 0\n",
+        ),
+        edge(
+            "no headers, a missing last word",
+            with_words(1, 17, 2, WITHOUT, &[0x0001, 0x8000, 0x0001]),
+            "type 1 pixels 17 lines 2 answer 1 good 1 end 1028\n\
+             1 0: 0 0 0 0 0 0 0 0 0 0 0 0 0 0 0 1 1\n\
+             2 1: 0 0 0 0 0 0 0 0 0 0 0 0 0 0 0 0 0\n",
+        ),
+        edge(
+            "no headers, half of a last word with a spare bit",
+            cut(with_words(1, 8, 2, WITHOUT, &[0x1800, 0x1801]), 1027),
+            "type 1 pixels 8 lines 2 answer 1 good 1 end 1026\n\
+             1 0: 0 0 0 1 1 0 0 0\n\
+             2 1: 0 0 0 0 0 0 0 0\n",
+        ),
+        edge(
+            "a wrong count comes before a spare bit",
+            starting(1, 8, &[(0, &[0x1801, 0]), (0, &[0, 1]), (0, &[0x1800, 0])]),
+            "type 1 pixels 8 lines 3 answer 1 good 0 end 1060\n\
+             1 6: 0 0 0 0 0 0 0 0\n\
+             2 6: 0 0 0 0 0 0 0 0\n\
+             3 6: 0 0 0 0 0 0 0 0\n",
+        ),
+        edge(
+            "number and offset come before a spare bit",
+            // The first line's number is two bytes at 1028.
+            changed(starting(1, 8, &[(0, &[0x1801]), (9, &[0x1801]), (9, &[])]), 1028, &[2]),
+            "type 1 pixels 8 lines 3 answer 1 good 0 end 1052\n\
+             1 4: 0 0 0 0 0 0 0 0\n\
+             2 5: 0 0 0 0 0 0 0 0\n\
+             3 5: 0 0 0 0 0 0 0 0\n",
+        ),
+        edge(
+            "words from column 3: DC00h has a sixth pixel",
+            starting(1, 8, &[(3, &[0xD800]), (3, &[0xDC00]), (3, &[0x1B00]), (3, &[])]),
+            "type 1 pixels 8 lines 4 answer 1 good 1 end 1062\n\
+             1 0: 0 0 0 1 1 0 1 1\n\
+             2 10: 0 0 0 0 0 0 0 0\n\
+             3 10: 0 0 0 0 0 0 0 0\n\
+             4 6: 0 0 0 0 0 0 0 0\n",
+        ),
+        edge(
+            "as few words as hold P less the offset",
+            starting(
+                1,
+                18,
+                &[(2, &[0x8001]), (2, &[0x8001, 0]), (1, &[0x8001, 0x8000]), (1, &[0x8001])],
+            ),
+            "type 1 pixels 18 lines 4 answer 1 good 2 end 1068\n\
+             1 0: 0 0 1 0 0 0 0 0 0 0 0 0 0 0 0 0 0 1\n\
+             2 6: 0 0 0 0 0 0 0 0 0 0 0 0 0 0 0 0 0 0\n\
+             3 0: 0 1 0 0 0 0 0 0 0 0 0 0 0 0 0 0 1 1\n\
+             4 6: 0 0 0 0 0 0 0 0 0 0 0 0 0 0 0 0 0 0\n",
+        ),
+        edge(
+            "packed words from column P",
+            starting(1, 8, &[(8, &[]), (8, &[0]), (8, &[0x8000]), (7, &[0x8000]), (7, &[0x4000])]),
+            "type 1 pixels 8 lines 5 answer 1 good 2 end 1072\n\
+             1 0: 0 0 0 0 0 0 0 0\n\
+             2 6: 0 0 0 0 0 0 0 0\n\
+             3 6: 0 0 0 0 0 0 0 0\n\
+             4 0: 0 0 0 0 0 0 0 1\n\
+             5 10: 0 0 0 0 0 0 0 0\n",
+        ),
+        edge(
+            "W 2 and W 1, type 1",
+            with_words(1, 8, 3, WITH, &[0x5900, 2, 1, 0, 0x5900, 1, 2, 0, 0x1800]),
+            "type 1 pixels 8 lines 3 answer 1 good 0 end 1032\n\
+             1 6: 0 0 0 0 0 0 0 0\n\
+             2 3: 0 0 0 0 0 0 0 0\n\
+             3 9: 0 0 0 0 0 0 0 0\n",
+        ),
+    ]
+}
+
 /// A picture and all that the writing program prints for it.
 pub struct WrittenEdge {
     pub name: &'static str,
@@ -556,6 +701,9 @@ pub fn written_edges() -> Vec<WrittenEdge> {
     let widest: Vec<u16> = (0..65_533).collect();
     let mut long_line = vec![0x5900, 65_535, 1, 0];
     long_line.extend(&widest);
+    let mut packed_line = vec![0x5900, 4_098, 1, 0];
+    packed_line.extend(vec![0xFFFF; 4_095]);
+    packed_line.push(0xFFFE);
     let mut all = vec![
         written("11: OFF, no headers", 9, WITHOUT, off.clone(), &[32_767, 0, 1]),
         written("11: ON, no headers", 9, WITHOUT, on.clone(), &[0, 32_767, 0, 1, 0]),
@@ -577,7 +725,17 @@ pub fn written_edges() -> Vec<WrittenEdge> {
         written("runs that end ON", 9, WITHOUT, vec![1, 0, 1], &[0, 1, 1, 1, 0]),
         written("a spare byte", 2, WITH, vec![5, 6, 7], &[0x5900, 4, 1, 0, 0x0605, 0x0007]),
         written("14: 65,533 words", 3, WITH, widest, &long_line),
+        written("packed", 1, WITHOUT, vec![0, 0, 0, 1, 1, 0, 0, 0], &[0x1800]),
+        written("packed, one word", 1, WITH, vec![1; 16], &[0x5900, 3, 1, 0, 0xFFFF]),
+        written("packed, one pixel more", 1, WITH, vec![1; 17], &[0x5900, 4, 1, 0, 0xFFFF, 0x8000]),
+        written("packed, one pixel", 1, WITHOUT, vec![1], &[0x8000]),
+        written("packed, the widest", 1, WITH, vec![1; 65_535], &packed_line),
     ];
+    let mut picture = Picture::plain(1, 3, 1, 1, vec![1, 0, 2]);
+    picture.room = 1_034;
+    picture.fill = FILL;
+    let printed = [&b"refused 26\n"[..], &[FILL; 1_034]].concat();
+    all.push(WrittenEdge { name: "packed, a pixel of 2", picture, printed });
     let mut picture = Picture::plain(3, 65_534, 1, 1, vec![9; 65_534]);
     picture.room = 133_000;
     picture.fill = FILL;
@@ -656,4 +814,161 @@ fn small(way: u32, slo: u32, pixels: Vec<u16>) -> Turning {
 
 fn printed(head: &str, filled: &[u16]) -> Vec<u8> {
     [head.as_bytes(), &words(filled)].concat()
+}
+
+/// A sheet to be moved, and what comes of it: the moved sheet, or a number.
+#[derive(Clone)]
+pub struct MovedEdge {
+    pub name: &'static str,
+    pub file: Vec<u8>,
+    /// Bytes of output lent.
+    pub room: usize,
+    pub outcome: Result<Vec<u8>, u32>,
+}
+
+/// With five bytes of room to spare.
+fn moved(name: &'static str, file: Vec<u8>, to: Vec<u8>) -> MovedEdge {
+    MovedEdge { name, file, room: to.len() + 5, outcome: Ok(to) }
+}
+
+/// With more room than any of these needs.
+fn unmoved(name: &'static str, number: u32, file: Vec<u8>) -> MovedEdge {
+    MovedEdge { name, file, room: 200_000, outcome: Err(number) }
+}
+
+/// A sheet of wide lines, as its words.
+fn wide(kind: u8, pixels: u16, lines: u8, scn: u8, raster: &[u16]) -> Vec<u8> {
+    changed(with_words(kind, 0, lines, scn, raster), 184, &pixels.to_le_bytes())
+}
+
+/// The words of a line of 65,535 pixels or a few less, OFF and ON by turns.
+fn by_turns(pixels: u16) -> Vec<u16> {
+    let mut words = vec![0x5555; 4_096];
+    words[4_095] = 0x5555 & !(0xFFFF >> (pixels - 65_520));
+    words
+}
+
+pub fn moved_edges() -> Vec<MovedEdge> {
+    [moved_sheets(), unmoved_sheets(), wide_moves()].concat()
+}
+
+fn moved_sheets() -> Vec<MovedEdge> {
+    let packed = [0x59A7, 3, 1, 0, 0x1800, 0x5900, 3, 2, 0, 0xFF00];
+    let runs = [0x59A7, 5, 1, 0, 3, 2, 3, 0x5900, 5, 2, 0, 0, 8, 0];
+    let (packed, runs) = (with_words(1, 8, 2, WITH, &packed), with_words(9, 8, 2, WITH, &runs));
+    // All that may stand in a header, and a block more of it.
+    let dressed = |file: &[u8]| {
+        let mut longer = file[..1_024].to_vec();
+        longer.extend([0xC5; 512]);
+        longer.extend(&file[1_024..]);
+        for (at, bytes) in [
+            (2, &[0xFE, 0x02][..]),
+            (6, &[7, 8]),
+            (30, b"a plan of 1989"),
+            (56, &[0xFF; 128]),
+            (192, &[0x38, 0xFF, 5]),
+            (520, &[1, 2, 3, 4, 5, 6, 7, 8, 9, 10, 11, 12, 1, 0]),
+            (536, &[0xFF; 4]),
+            (548, &[0xFF; 300]),
+        ] {
+            put(&mut longer, at, bytes);
+        }
+        longer
+    };
+    let bare = |kind, words: &[u16]| with_words(kind, 8, 2, WITHOUT, words);
+    vec![
+        moved("type 1 to 9", packed.clone(), runs.clone()),
+        moved("type 9 to 1", runs.clone(), packed.clone()),
+        moved("type 1 to 9, a header full of things", dressed(&packed), dressed(&runs)),
+        moved("type 9 to 1, a header full of things", dressed(&runs), dressed(&packed)),
+        moved("no headers, 1 to 9", bare(1, &[0x1800, 0xFF00]), bare(9, &[3, 2, 3, 0, 8, 0])),
+        moved("no headers, 9 to 1", bare(9, &[3, 2, 3, 0, 8, 0]), bare(1, &[0x1800, 0xFF00])),
+        moved("zero runs go", bare(9, &[3, 0, 0, 2, 3, 0, 8, 0]), bare(1, &[0x1800, 0xFF00])),
+        moved(
+            "zero runs go, with headers",
+            with_words(9, 8, 1, WITH, &[0x5900, 9, 1, 0, 3, 0, 0, 2, 0, 0, 3]),
+            with_words(1, 8, 1, WITH, &[0x5900, 3, 1, 0, 0x1800]),
+        ),
+        moved(
+            "words after the last line",
+            bare(1, &[0x1800, 0xFF00, 9, 9]),
+            bare(9, &[3, 2, 3, 0, 8, 0]),
+        ),
+        moved(
+            "bytes after the last line",
+            [packed.clone(), vec![0, 0x59, 3]].concat(),
+            runs.clone(),
+        ),
+        moved("runs after the last line", bare(9, &[8, 8, 0, 0, 8]), bare(1, &[0, 0])),
+        moved(
+            "a run goes on in the next word",
+            with_words(1, 17, 1, WITHOUT, &[0x00FF, 0x8000]),
+            with_words(9, 17, 1, WITHOUT, &[8, 9, 0]),
+        ),
+        MovedEdge { room: runs.len(), ..moved("just enough room", packed.clone(), runs.clone()) },
+        MovedEdge { room: runs.len() - 1, ..unmoved("a byte too few", 28, packed.clone()) },
+        MovedEdge { room: packed.len() - 1, ..unmoved("a byte too few, 9 to 1", 28, runs) },
+        MovedEdge { room: 0, ..unmoved("no room", 28, packed) },
+    ]
+}
+
+fn unmoved_sheets() -> Vec<MovedEdge> {
+    let good = starting(1, 8, &[(0, &[0x1800]), (0, &[0xFF00])]);
+    let table = changed(with_words(2, 8, 1, WITHOUT, &[0, 0, 0, 0]), 532, &[2, 0, 0, 0, 2]);
+    vec![
+        unmoved("an empty file", 11, Vec::new()),
+        unmoved("type 4", 16, changed(good.clone(), 4, &[4])),
+        unmoved("type 257", 16, changed(good.clone(), 5, &[1])),
+        unmoved("SCN 2", 18, changed(good.clone(), 195, &[2])),
+        unmoved("a slot twice comes before the type", 22, table),
+        unmoved("type 2", 30, with_words(2, 2, 1, WITHOUT, &[0x0605])),
+        unmoved("type 3", 30, with_words(3, 2, 1, WITHOUT, &[5, 6])),
+        unmoved("type 10", 30, with_words(10, 8, 1, WITHOUT, &[1, 8])),
+        unmoved("the type comes before lines", 30, starting(10, 8, &[(0, &[1, 7]), (8, &[])])),
+        unmoved("a spare bit", 41, starting(1, 8, &[(0, &[0x1800]), (0, &[0xFF01])])),
+        unmoved("a spare bit, no headers", 41, with_words(1, 8, 2, WITHOUT, &[0x1801, 0])),
+        unmoved("a line missing", 41, with_words(1, 8, 2, WITHOUT, &[0x1800])),
+        unmoved("a run short", 41, starting(9, 8, &[(0, &[3, 2, 3]), (0, &[3, 2, 2])])),
+        unmoved("nothing after the header", 41, head(9, 8, 1, WITH)),
+        unmoved("a wrong number", 41, changed(good, 1_028, &[3])),
+        unmoved("an offset past P", 41, starting(1, 8, &[(9, &[])])),
+        unmoved("an offset", 42, starting(1, 8, &[(3, &[0xD800])])),
+        unmoved("an offset in the last line", 42, starting(9, 8, &[(0, &[8]), (3, &[1, 3, 1])])),
+        unmoved("an offset of P", 42, starting(1, 8, &[(0, &[0]), (8, &[])])),
+        unmoved("an offset, then a bad line", 41, starting(1, 8, &[(3, &[0xD800]), (0, &[1])])),
+        unmoved("a bad line, then an offset", 41, starting(9, 8, &[(0, &[7]), (3, &[5])])),
+        MovedEdge { room: 0, ..unmoved("an offset, no room", 42, starting(1, 8, &[(8, &[])])) },
+        MovedEdge { room: 0, ..unmoved("a bad line, no room", 41, starting(1, 8, &[(0, &[1])])) },
+        MovedEdge { room: 0, ..unmoved("type 3, no room", 30, with_words(3, 1, 1, WITHOUT, &[5])) },
+    ]
+}
+
+/// Runs that are cut, and the longest bodies.
+fn wide_moves() -> Vec<MovedEdge> {
+    let line = |body: &[u16]| [&[0x5900, body.len() as u16 + 2, 1, 0], body].concat();
+    let ones = |pixels: u16| wide(1, pixels, 1, WITHOUT, &vec![0xFFFF; usize::from(pixels) / 16]);
+    let cut_runs = [0, 32_767, 0, 1, 0];
+    let single = |pixels: u16| vec![1; pixels.into()];
+    let [packed, longer] = [65_533, 65_534].map(|n| wide(1, n, 1, WITH, &line(&by_turns(n))));
+    let runs = wide(9, 65_533, 1, WITH, &line(&single(65_533)));
+    let two = [line(&by_turns(65_534)), vec![0x5900, 2, 2, 65_534]].concat();
+    vec![
+        moved("11: ON, moved", ones(32_768), wide(9, 32_768, 1, WITHOUT, &cut_runs)),
+        moved("11: ON, moved back", wide(9, 32_768, 1, WITHOUT, &cut_runs), ones(32_768)),
+        moved(
+            "11: cut otherwise, moved back",
+            wide(9, 32_768, 1, WITHOUT, &[0, 1, 0, 32_767, 0]),
+            ones(32_768),
+        ),
+        moved("65,533 words", packed.clone(), runs.clone()),
+        moved("65,533 words, back", runs, packed),
+        unmoved("65,535 words", 27, longer.clone()),
+        MovedEdge { room: 0, ..unmoved("65,535 words, no room", 27, longer) },
+        unmoved("65,535 words, then an offset", 42, wide(1, 65_534, 2, WITH, &two)),
+        moved(
+            "65,535 words, no headers",
+            wide(1, 65_535, 1, WITHOUT, &by_turns(65_535)),
+            wide(9, 65_535, 1, WITHOUT, &single(65_535)),
+        ),
+    ]
 }

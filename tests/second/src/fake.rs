@@ -2,10 +2,11 @@
 //! They show that a mode passes a right program and catches a wrong one; nothing more, since
 //! they are the model.
 
-use crate::miscut;
 use crate::misread::{self, misread, Misreading};
-use crate::model::writer::{self, Cutting};
+use crate::model::sheet::Unpacking;
+use crate::model::writer::{self, Coding};
 use crate::model::{long, probe, sheet};
+use crate::{miscut, mispack};
 use std::io::{self, Read, Write};
 use std::time::Duration;
 
@@ -22,8 +23,10 @@ enum Change {
     After(fn(&mut Vec<u8>)),
     /// To the lines that the listing program reads.
     Misread(Misreading),
+    /// To the packed words that the listing program reads.
+    Unpack(Unpacking),
     /// To the words that the writing program makes of a row.
-    Miscut(Cutting),
+    Miscode(Coding),
     /// To a call of the turning program that is not refused, or is.
     Turned(fn(&mut Call)),
     Refused(fn(&mut Call)),
@@ -41,8 +44,12 @@ const fn misreads(name: &'static str, change: Misreading) -> Defect {
     Defect { name, change: Change::Misread(change) }
 }
 
-const fn miscuts(name: &'static str, change: Cutting) -> Defect {
-    Defect { name, change: Change::Miscut(change) }
+const fn unpacks(name: &'static str, change: Unpacking) -> Defect {
+    Defect { name, change: Change::Unpack(change) }
+}
+
+const fn miscodes(name: &'static str, change: Coding) -> Defect {
+    Defect { name, change: Change::Miscode(change) }
 }
 
 const fn turned(name: &'static str, change: fn(&mut Call)) -> Defect {
@@ -53,7 +60,7 @@ const fn refused(name: &'static str, change: fn(&mut Call)) -> Defect {
     Defect { name, change: Change::Refused(change) }
 }
 
-const HEADER: [Defect; 9] = [
+const HEADER: [Defect; 10] = [
     // CTV taken as one byte.
     before("ctv-byte", |file| keep(file, 533, 0)),
     // PPL taken as 16 bits.
@@ -64,13 +71,18 @@ const HEADER: [Defect; 9] = [
     after("colors-twice", |out| {
         replace(out, "\n255: 65280 65280 65280\n", "\n255: 65535 65535 65535\n")
     }),
+    after("type-1-refused", |out| {
+        if out.starts_with(b"type 1 ") {
+            *out = b"refused 16\n".to_vec();
+        }
+    }),
     after("no-newline", |out| out.truncate(out.len() - 1)),
     after("blank-at-end", |out| out.insert(out.len() - 1, b' ')),
     after("refuses-all", |out| *out = b"refused 11\n".to_vec()),
     after("runs-on", |_| std::thread::sleep(Duration::MAX)),
 ];
 
-const LISTING: [Defect; 22] = [
+const LISTING: [Defect; 29] = [
     before("last-byte-unread", |file| file.truncate(file.len().max(1) - 1)),
     before("cuts-long-input", |file| file.truncate(probe::LISTING_LIMIT)),
     after("no-newline", |out| out.truncate(out.len() - 1)),
@@ -100,6 +112,13 @@ const LISTING: [Defect; 22] = [
     misreads("spare-byte-by-ppl", misread::spare_byte_by_ppl),
     misreads("row-not-moved", misread::row_not_moved),
     misreads("row-ends-below", misread::row_ends_below),
+    unpacks("lowest-bit-first", mispack::LOWEST_READ),
+    unpacks("first-byte-first", mispack::FIRST_BYTE_READ),
+    unpacks("spare-bit-taken", mispack::SPARE_TAKEN),
+    unpacks("10-before-6", mispack::TEN_BEFORE_SIX),
+    unpacks("10-loses-chain", mispack::TEN_LOSES),
+    unpacks("last-word-missing", mispack::WORD_NOT_READ),
+    unpacks("a-word-too-many", mispack::WORD_TOO_MANY),
     after("fixed-picture", |out| {
         *out = b"type 9 pixels 1 lines 1 answer 0 good 1 end 1026\n1 0: 0\n".to_vec()
     }),
@@ -111,7 +130,7 @@ const LENT: [u16; 1] = [65_535];
 /// Some pixels of a sheet that was read before.
 const LAST_SHEET: [u16; 5] = [1, 1, 2, 3, 5];
 
-const WRITE: [Defect; 13] = [
+const WRITE: [Defect; 17] = [
     // Numbers narrowed to 16 bits before they are looked at.
     before("type-word", |input| keep(input, 2, 0)),
     before("scn-byte", |input| keep(input, 17, 0)),
@@ -134,12 +153,16 @@ const WRITE: [Defect; 13] = [
             out[start + 537] = 1;
         }
     }),
-    miscuts("cuts-at-32768", miscut::AT_32768),
-    miscuts("cuts-nothing", miscut::NOTHING),
-    miscuts("rest-of-0", miscut::REST_OF_0),
-    miscuts("rest-first", miscut::REST_FIRST),
-    miscuts("zero-run-missing", miscut::ZERO_RUN_MISSING),
-    miscuts("zero-run-in-pairs", miscut::ZERO_RUN_IN_PAIRS),
+    miscodes("cuts-at-32768", miscut::AT_32768),
+    miscodes("cuts-nothing", miscut::NOTHING),
+    miscodes("rest-of-0", miscut::REST_OF_0),
+    miscodes("rest-first", miscut::REST_FIRST),
+    miscodes("zero-run-missing", miscut::ZERO_RUN_MISSING),
+    miscodes("zero-run-in-pairs", miscut::ZERO_RUN_IN_PAIRS),
+    miscodes("lowest-bit-first", mispack::LOWEST_WRITTEN),
+    miscodes("first-byte-first", mispack::FIRST_BYTE_WRITTEN),
+    miscodes("last-word-missing", mispack::WORD_NOT_WRITTEN),
+    miscodes("spare-bits-set", mispack::SPARE_WRITTEN),
     after("refuses-all", |out| *out = b"refused 16\n".to_vec()),
 ];
 
@@ -282,6 +305,14 @@ fn misread_listing(input: &[u8], wrong: Misreading) -> Vec<u8> {
     }
 }
 
+/// The listing of a sheet whose packed words are read so.
+fn unpacked_listing(input: &[u8], by: &Unpacking) -> Vec<u8> {
+    match sheet::read_by(by, input, probe::LISTING_PIXELS, probe::LISTING_MARKS) {
+        Ok(found) if input.len() <= probe::LISTING_LIMIT => probe::list(&found),
+        _ => probe::listing(input),
+    }
+}
+
 /// What the turning program was asked, and what it printed.
 struct Call {
     back: bool,
@@ -369,7 +400,8 @@ pub fn play(name: &str) -> bool {
     }
     let mut output = match change {
         Some(Change::Misread(wrong)) => misread_listing(&input, *wrong),
-        Some(Change::Miscut(wrong)) => {
+        Some(Change::Unpack(wrong)) => unpacked_listing(&input, wrong),
+        Some(Change::Miscode(wrong)) => {
             probe::write_with(&input, |order| writer::write_by(wrong, order))
         }
         _ => program(&input),
@@ -378,7 +410,8 @@ pub fn play(name: &str) -> bool {
         Some(Change::After(change)) => change(&mut output),
         Some(Change::Turned(change)) => calls(&input, &mut output, "turned ", *change),
         Some(Change::Refused(change)) => calls(&input, &mut output, "refused ", *change),
-        Some(Change::Before(_) | Change::Misread(_) | Change::Miscut(_)) | None => {}
+        Some(Change::Before(_) | Change::Misread(_) | Change::Unpack(_) | Change::Miscode(_))
+        | None => {}
     }
     // Whoever closed the pipe wants no more.
     let _ = io::stdout().write_all(&output);

@@ -8,6 +8,8 @@ mod edges;
 mod fake;
 mod gen;
 mod miscut;
+mod mismove;
+mod mispack;
 mod misread;
 mod mode;
 mod model;

@@ -1,25 +1,25 @@
 //! Writers that cut long runs wrongly, for the stand-ins of the writing program and of the C functions.
 //! All but what is wrong is the model's.
 
-use crate::model::writer::{cut, levels, pairs, Cutting, Pieces, RIGHT};
+use crate::model::writer::{cut, levels, pairs, Coding, Pieces, RIGHT};
 
 /// Pieces of one pixel more.
-pub const AT_32768: Cutting =
-    Cutting { levels: |row| levels(row, LONGER), pairs: |row| pairs(row, LONGER) };
+pub const AT_32768: Coding =
+    Coding { levels: |row| levels(row, LONGER), pairs: |row| pairs(row, LONGER), ..RIGHT };
 
 /// Every run in one piece: a word has room for it.
-pub const NOTHING: Cutting =
-    Cutting { levels: |row| levels(row, WHOLE), pairs: |row| pairs(row, WHOLE) };
+pub const NOTHING: Coding =
+    Coding { levels: |row| levels(row, WHOLE), pairs: |row| pairs(row, WHOLE), ..RIGHT };
 
 /// A last piece of 0 where there is no rest.
-pub const REST_OF_0: Cutting =
-    Cutting { levels: |row| levels(row, WITH_REST), pairs: |row| pairs(row, WITH_REST) };
+pub const REST_OF_0: Coding =
+    Coding { levels: |row| levels(row, WITH_REST), pairs: |row| pairs(row, WITH_REST), ..RIGHT };
 
-pub const REST_FIRST: Cutting =
-    Cutting { levels: |row| levels(row, BACKWARDS), pairs: |row| pairs(row, BACKWARDS) };
+pub const REST_FIRST: Coding =
+    Coding { levels: |row| levels(row, BACKWARDS), pairs: |row| pairs(row, BACKWARDS), ..RIGHT };
 
 /// Type 9 without zero runs but the first and the last.
-pub const ZERO_RUN_MISSING: Cutting = Cutting {
+pub const ZERO_RUN_MISSING: Coding = Coding {
     levels: |row| {
         let words = levels(row, cut);
         let last = words.len() - 1;
@@ -30,7 +30,7 @@ pub const ZERO_RUN_MISSING: Cutting = Cutting {
 };
 
 /// Type 10 with a zero run between pieces too.
-pub const ZERO_RUN_IN_PAIRS: Cutting = Cutting { pairs: |row| pairs(row, APART), ..RIGHT };
+pub const ZERO_RUN_IN_PAIRS: Coding = Coding { pairs: |row| pairs(row, APART), ..RIGHT };
 
 const LONGER: Pieces = |mut length| {
     let mut list = Vec::new();

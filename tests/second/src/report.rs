@@ -35,9 +35,12 @@ pub struct Plan {
 
 /// What the cases of a mode must have reached: a generator that no longer gets there would
 /// pass for nothing.
+#[derive(Default)]
 pub struct Needed {
     pub reached: Vec<String>,
     pub families: Vec<&'static str>,
+    /// What must have been reached so many times.
+    pub often: Vec<(&'static str, usize)>,
 }
 
 /// What one case came to.
@@ -261,6 +264,12 @@ impl Tally {
         }
         for what in needed.reached.iter().filter(|what| !self.reached.contains_key(*what)) {
             missed.push(format!("no case reached {what}"));
+        }
+        for &(what, least) in &needed.often {
+            let count = self.reached.get(what).copied().unwrap_or(0);
+            if count < least {
+                missed.push(format!("{what} {count} times, {least} wanted"));
+            }
         }
         for family in needed.families.iter().filter(|family| !self.families.contains_key(*family)) {
             missed.push(format!("no case is one of: {family}"));

@@ -174,6 +174,34 @@ impl Bench<'_> {
     }
 }
 
+impl Bench<'_> {
+    pub fn transcode(
+        &self,
+        rng: &mut Rng,
+        file: &[u8],
+        room: usize,
+        answer: usize,
+    ) -> (Done<u8>, Found) {
+        let mut given = self.holding(rng, "file", file);
+        let mut out = self.dirty(rng, "output", room);
+        let mut answer = self.dirty(rng, "answer", answer);
+        let before = given.clone();
+        let mut wanted = [out.clone(), answer.clone()];
+        let right = {
+            let [out, answer] = &mut wanted;
+            c::transcode(before.lent(), out.lent_mut(), answer.lent_mut())
+        };
+        let (from, from_len) = given.raw();
+        let (to, to_len) = out.raw();
+        let (numbers, len) = answer.raw();
+        // SAFETY: as above.
+        let result = unsafe { (self.calls.transcode)(from, from_len, to, to_len, numbers, len) };
+        let held = [held(&before, &given), held(&wanted[0], &out), held(&wanted[1], &answer)];
+        let found = report::judge_call("ingr_move", format_args!(""), [right, result], &held);
+        (Done { result, answer: answer.lent().to_vec(), filled: out.lent().to_vec() }, found)
+    }
+}
+
 pub fn held<'a, T: Cell>(wanted: &'a Bed<T>, found: &'a Bed<T>) -> Held<'a> {
     let (wanted, lent) = wanted.bytes();
     Held { name: found.name, wanted, found: found.bytes().0, lent }

@@ -46,6 +46,8 @@ pub struct Calls {
         *mut u8,
         usize,
     ) -> u32,
+    /// File, output, answer.
+    pub transcode: unsafe extern "C" fn(*const u8, usize, *mut u8, usize, *mut u8, usize) -> u32,
 }
 
 type Turn = unsafe extern "C" fn(u32, u32, u32, *const u16, usize, *mut u16, usize) -> u32;

@@ -2,13 +2,16 @@
 //! the right ones pass and that each wrong one is found; nothing more, since they are the model.
 
 use super::Calls;
-use crate::miscut;
 use crate::misread::{self, misread, Misreading};
 use crate::model::c::{
-    self, Turn, Write, COLOR_ANSWER, HEADER_ANSWER, RASTER_ANSWER, SHORT_ANSWER, WRITE_ANSWER,
+    self, Turn, Write, COLOR_ANSWER, HEADER_ANSWER, MOVE_ANSWER, RASTER_ANSWER, SHORT_ANSWER,
+    WRITE_ANSWER,
 };
-use crate::model::writer::Cutting;
+use crate::model::sheet::Unpacking;
+use crate::model::transcode::Manner;
+use crate::model::writer::Coding;
 use crate::model::{header, long, probe, sheet, turn};
+use crate::{miscut, mismove, mispack};
 use std::slice::{from_raw_parts, from_raw_parts_mut};
 use std::sync::{Mutex, OnceLock};
 use std::time::Duration;
@@ -18,6 +21,7 @@ type Color = fn(&[u8], u32, &mut [u8]) -> u32;
 type Raster = fn(&[u8], &mut [u8], &mut [u8], &mut [u8]) -> u32;
 type Turning = fn(&Turn, &mut [u16]) -> u32;
 type Writing = fn(&Write, &mut [u8], &mut [u8]) -> u32;
+type Moving = fn(&[u8], &mut [u8], &mut [u8]) -> u32;
 
 pub struct Defect {
     pub name: &'static str,
@@ -35,10 +39,15 @@ enum Change {
     Raster(Raster),
     Turn(Turning),
     Write(Writing),
+    Move(Moving),
     /// To the lines that are read.
     Misread(Misreading),
+    /// To the packed words that are read.
+    Unpack(Unpacking),
     /// To the words that are written for a row.
-    Miscut(Cutting),
+    Miscode(Coding),
+    /// To the way a sheet is moved.
+    Mismove(Manner),
     /// After a right reading of such files, to the byte behind the sheet where no more is lent.
     Behind(fn(&[u8]) -> bool),
     /// After a right function, to one byte of a buffer of this name or of its guards, told by
@@ -52,8 +61,21 @@ const fn defect(name: &'static str, told: &'static str, change: Change) -> Defec
 
 pub const RIGHT: &str = "right";
 
+/// Those whose moves there and back must show it by themselves, and what is told.
+pub const OF_RETURNS: [(&str, &str); 9] = [
+    ("move-renews-header", "other bytes come back"),
+    ("move-renews-identifier", "other bytes come back"),
+    ("move-stamps-header", "what came back comes back otherwise"),
+    ("move-keeps-w", "other bytes come back"),
+    ("move-keeps-rest", "it does not read as it did"),
+    ("move-sets-spare-bits", "other bytes come back"),
+    ("move-goes-word-by-word", "other bytes come back"),
+    ("move-makes-black-white", "it does not read as it did"),
+    ("move-refuses-all", "refused"),
+];
+
 /// Those whose pairs must show it by themselves, and what is told.
-pub const OF_PAIRS: [(&str, &str); 13] = [
+pub const OF_PAIRS: [(&str, &str); 16] = [
     ("refused-row-unpainted", "differs, but its body does not"),
     ("unpainted-after-lost", "differs, but its body does not"),
     ("last-sheet-under-damage", "and not blank"),
@@ -67,9 +89,12 @@ pub const OF_PAIRS: [(&str, &str); 13] = [
     ("margin-unpainted", "differs, but its body does not"),
     ("whole-row-wanted", "not read by its own header and body"),
     ("row-not-moved", "not read by its own header and body"),
+    ("lowest-bit-first", "not read by its own header and body"),
+    ("spare-bit-taken", "not read by its own header and body"),
+    ("10-before-6", "not read by its own header and body"),
 ];
 
-pub const DEFECTS: [Defect; 80] = [
+pub const DEFECTS: [Defect; 123] = [
     defect(RIGHT, "", Change::None),
     // 29 after another number, too early, too late.
     defect(
@@ -522,6 +547,22 @@ pub const DEFECTS: [Defect; 80] = [
         "pixels: guard, 0 past its end,",
         Change::Behind(misread::ends_partway),
     ),
+    // Packed words.
+    defect("lowest-bit-first", "ingr_raster: ", Change::Unpack(mispack::LOWEST_READ)),
+    defect("first-byte-first", "ingr_raster: ", Change::Unpack(mispack::FIRST_BYTE_READ)),
+    defect("spare-bit-taken", "ingr_raster: ", Change::Unpack(mispack::SPARE_TAKEN)),
+    defect("10-before-6", "ingr_raster: marks: byte ", Change::Unpack(mispack::TEN_BEFORE_SIX)),
+    defect("10-loses-chain", "ingr_raster: ", Change::Unpack(mispack::TEN_LOSES)),
+    defect("last-word-not-read", "ingr_raster: ", Change::Unpack(mispack::WORD_NOT_READ)),
+    defect("a-word-too-many", "ingr_raster: ", Change::Unpack(mispack::WORD_TOO_MANY)),
+    defect(
+        "type-1-refused",
+        "ingr_header: result 16, 0 wanted",
+        Change::Header(|file, answer| match c::header(file, answer) {
+            0 if file[4] == 1 => 16,
+            number => number,
+        }),
+    ),
     // The first line of a second band of 65,535 pixels left out.
     defect(
         "band-forgets-a-line",
@@ -638,19 +679,118 @@ pub const DEFECTS: [Defect; 80] = [
             number => number,
         }),
     ),
-    defect("cuts-at-32768", "ingr_write: output: byte ", Change::Miscut(miscut::AT_32768)),
-    defect("cuts-nothing", "ingr_write: output: byte ", Change::Miscut(miscut::NOTHING)),
-    defect("rest-of-0", "ingr_write: result 28, 0 wanted", Change::Miscut(miscut::REST_OF_0)),
-    defect("rest-first", "ingr_write: output: byte ", Change::Miscut(miscut::REST_FIRST)),
+    defect("cuts-at-32768", "ingr_write: output: byte ", Change::Miscode(miscut::AT_32768)),
+    defect("cuts-nothing", "ingr_write: output: byte ", Change::Miscode(miscut::NOTHING)),
+    defect("rest-of-0", "ingr_write: result 28, 0 wanted", Change::Miscode(miscut::REST_OF_0)),
+    defect("rest-first", "ingr_write: output: byte ", Change::Miscode(miscut::REST_FIRST)),
     defect(
         "zero-run-missing",
         "ingr_write: output: byte ",
-        Change::Miscut(miscut::ZERO_RUN_MISSING),
+        Change::Miscode(miscut::ZERO_RUN_MISSING),
     ),
     defect(
         "zero-run-in-pairs",
         "ingr_write: result 28, 0 wanted",
-        Change::Miscut(miscut::ZERO_RUN_IN_PAIRS),
+        Change::Miscode(miscut::ZERO_RUN_IN_PAIRS),
+    ),
+    defect("packs-lowest-first", OUTPUT, Change::Miscode(mispack::LOWEST_WRITTEN)),
+    defect("packs-first-byte-first", OUTPUT, Change::Miscode(mispack::FIRST_BYTE_WRITTEN)),
+    defect("last-word-not-written", OUTPUT, Change::Miscode(mispack::WORD_NOT_WRITTEN)),
+    defect("spare-bits-written", OUTPUT, Change::Miscode(mispack::SPARE_WRITTEN)),
+    defect(
+        "write-type-1-refused",
+        "ingr_write: result 16, 0 wanted",
+        Change::Write(|given, out, answer| match c::write(given, out, answer) {
+            0 if given.kind == 1 => 16,
+            number => number,
+        }),
+    ),
+    // Moving.
+    defect(
+        "move-29-late",
+        "ingr_move: result 28, 29 wanted",
+        Change::Move(|file, out, answer| {
+            match c::transcode(file, &mut out.to_vec(), &mut [0; MOVE_ANSWER]) {
+                0 => c::transcode(file, out, answer),
+                number => number,
+            }
+        }),
+    ),
+    defect(
+        "move-3-taken",
+        "ingr_move: result 0, 29 wanted",
+        Change::Move(|file, out, answer| {
+            one_less([0; MOVE_ANSWER], answer, |to| c::transcode(file, out, to))
+        }),
+    ),
+    defect(
+        "move-4-refused",
+        "ingr_move: result 29, ",
+        Change::Move(|file, out, answer| match answer.len() {
+            MOVE_ANSWER => SHORT_ANSWER,
+            _ => c::transcode(file, out, answer),
+        }),
+    ),
+    defect(
+        "move-answers-refused",
+        "ingr_move: answer: byte 0 of ",
+        Change::Move(|file, out, answer| match c::transcode(file, out, answer) {
+            41 => clear(answer, 41),
+            number => number,
+        }),
+    ),
+    defect(
+        "move-past-numbers",
+        "ingr_move: answer: byte 4 of ",
+        Change::Move(|file, out, answer| {
+            past(MOVE_ANSWER, answer, |answer| c::transcode(file, out, answer))
+        }),
+    ),
+    defect("move-42-before-41", "result 42, 41 wanted", Change::Move(mismove::forty_two_first)),
+    defect(
+        "move-41-before-30",
+        "result 41, 30 wanted",
+        Change::Move(mismove::forty_one_before_thirty),
+    ),
+    defect("move-30-before-22", "result 30, 22 wanted", Change::Move(mismove::thirty_before_21)),
+    defect(
+        "move-28-before-27",
+        "result 28, 27 wanted",
+        Change::Move(mismove::twenty_eight_before_27),
+    ),
+    defect("move-header-then-28", MOVED, Change::Move(mismove::header_then_28)),
+    defect(
+        "move-answer-then-28",
+        "ingr_move: answer: byte ",
+        Change::Move(mismove::answer_then_28),
+    ),
+    defect("move-clears-output", MOVED, Change::Move(mismove::output_cleared)),
+    defect(
+        "move-answers-old-length",
+        "ingr_move: answer: byte ",
+        Change::Move(mismove::old_length),
+    ),
+    defect("move-renews-header", MOVED, Change::Mismove(mismove::HEADER_RENEWED)),
+    defect("move-stamps-header", MOVED, Change::Mismove(mismove::HEADER_STAMPED)),
+    defect("move-keeps-two-blocks", MOVED, Change::Mismove(mismove::TWO_BLOCKS_KEPT)),
+    defect("move-keeps-type", "output: byte 4 of ", Change::Mismove(mismove::TYPE_KEPT)),
+    defect("move-renews-identifier", MOVED, Change::Mismove(mismove::IDENTIFIER_RENEWED)),
+    defect("move-keeps-w", MOVED, Change::Mismove(mismove::W_KEPT)),
+    defect("move-counts-w-from-start", MOVED, Change::Mismove(mismove::W_FROM_START)),
+    defect("move-keeps-rest", "ingr_move: ", Change::Mismove(mismove::REST_KEPT)),
+    defect("move-takes-offsets", ", 42 wanted", Change::Mismove(mismove::OFFSETS_TAKEN)),
+    defect("move-takes-spare-bits", "result 0, 41 wanted", Change::Mismove(mismove::SPARE_TAKEN)),
+    defect("move-sets-spare-bits", MOVED, Change::Mismove(mismove::SPARE_SET)),
+    defect("move-cuts-nothing", MOVED, Change::Mismove(mismove::NOT_CUT)),
+    defect("move-goes-word-by-word", "ingr_move: ", Change::Mismove(mismove::WORD_BY_WORD)),
+    defect("move-makes-black-white", "ingr_move: ", Change::Mismove(mismove::BLACK_WHITE)),
+    defect(
+        "move-refuses-all",
+        "ingr_move: result 41, 0 wanted",
+        Change::Move(|file, out, answer| match c::transcode(file, out, answer) {
+            0 => 41,
+            number => number,
+        }),
     ),
     defect(
         "runs-on",
@@ -702,7 +842,21 @@ pub const DEFECTS: [Defect; 80] = [
         "ingr_turn: pixels: byte 0 of ",
         Change::Touch("turned", |len| (len > 0).then_some(0)),
     ),
+    defect(
+        "changes-moved-file",
+        "ingr_move: file: byte 0 of ",
+        Change::Touch("moved", |len| (len > 0).then_some(0)),
+    ),
+    defect(
+        "writes-behind-moved",
+        "ingr_move: output: guard, 0 past its end,",
+        Change::Touch("place", Some),
+    ),
 ];
+
+/// What is told of bytes in the output of the writer, and of the move.
+const OUTPUT: &str = "ingr_write: output: byte ";
+const MOVED: &str = "ingr_move: output: byte ";
 
 /// The last picture read.
 static LAST: Mutex<Vec<u8>> = Mutex::new(Vec::new());
@@ -801,7 +955,7 @@ pub fn table(name: &str) -> Option<Calls> {
     let defect = DEFECTS.iter().find(|defect| defect.name == name)?;
     PLAYED.set(defect).ok()?;
     let turn = turn_upright;
-    Some(Calls { header, raster, color, turn, turn_back, write })
+    Some(Calls { header, raster, color, turn, turn_back, write, transcode })
 }
 
 fn played() -> &'static Change {
@@ -858,6 +1012,7 @@ unsafe extern "C" fn raster(
     let result = match played() {
         Change::Raster(call) => call(given, rows, marked, numbers),
         Change::Misread(wrong) => misread_raster(given, rows, marked, numbers, *wrong),
+        Change::Unpack(wrong) => c::raster_by(wrong, given, rows, marked, numbers),
         _ => c::raster(given, rows, marked, numbers),
     };
     if let (Change::Behind(chosen), 0 | 1) = (played(), result) {
@@ -940,12 +1095,33 @@ unsafe extern "C" fn write(
     let (place, numbers) = (from_raw_parts_mut(out, out_len), from_raw_parts_mut(answer, len));
     let result = match played() {
         Change::Write(call) => call(&given, place, numbers),
-        Change::Miscut(wrong) => c::write_by(wrong, &given, place, numbers),
+        Change::Miscode(wrong) => c::write_by(wrong, &given, place, numbers),
         _ => c::write(&given, place, numbers),
     };
     touch("table", table, table_len);
     touch("written", pixels, n);
     touch("output", out, out_len);
+    touch("answer", answer, len);
+    result
+}
+
+unsafe extern "C" fn transcode(
+    file: *const u8,
+    n: usize,
+    out: *mut u8,
+    out_len: usize,
+    answer: *mut u8,
+    len: usize,
+) -> u32 {
+    let given = from_raw_parts(file, n);
+    let (place, numbers) = (from_raw_parts_mut(out, out_len), from_raw_parts_mut(answer, len));
+    let result = match played() {
+        Change::Move(call) => call(given, place, numbers),
+        Change::Mismove(wrong) => c::transcode_by(wrong, given, place, numbers),
+        _ => c::transcode(given, place, numbers),
+    };
+    touch("moved", file, n);
+    touch("place", out, out_len);
     touch("answer", answer, len);
     result
 }

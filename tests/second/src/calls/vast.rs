@@ -5,7 +5,7 @@ use super::bed::Bed;
 use super::call::{held, Bench};
 use crate::gen::put;
 use crate::model::c::{
-    self, COLOR_ANSWER, HEADER_ANSWER, RASTER_ANSWER, SHORT_ANSWER, WRITE_ANSWER,
+    self, COLOR_ANSWER, HEADER_ANSWER, MOVE_ANSWER, RASTER_ANSWER, SHORT_ANSWER, WRITE_ANSWER,
 };
 use crate::model::LONGEST_FILE;
 use crate::report::{self, fault, Found};
@@ -67,17 +67,18 @@ pub fn check(bench: &Bench, reached: &mut Vec<String>) -> Found {
     }
     for length in [longest - 1, longest, longest + 1, LENGTH] {
         for less in [0, 1] {
-            let lengths = [HEADER_ANSWER, COLOR_ANSWER, RASTER_ANSWER].map(|n| n - less);
+            let lengths = ANSWERS.map(|n| n - less);
             found = found.and(read(bench, &mut rng, &bytes[..length], lengths, reached));
         }
     }
     lay_long_lines(bytes);
     for length in [longest - 1, longest] {
-        let lengths = [HEADER_ANSWER, COLOR_ANSWER, RASTER_ANSWER];
-        found = found.and(read(bench, &mut rng, &bytes[..length], lengths, reached));
+        found = found.and(read(bench, &mut rng, &bytes[..length], ANSWERS, reached));
     }
-    found
+    found.and(long_moves(bench, &mut rng, bytes, reached))
 }
+
+const ANSWERS: [usize; 4] = [HEADER_ANSWER, COLOR_ANSWER, RASTER_ANSWER, MOVE_ANSWER];
 
 /// Bytes of the longest line there is.
 const LONGEST_LINE: usize = 4 + 2 * 65_535;
@@ -101,7 +102,7 @@ fn read(
     bench: &Bench,
     rng: &mut Rng,
     file: &[u8],
-    lengths: [usize; 3],
+    lengths: [usize; 4],
     reached: &mut Vec<String>,
 ) -> Found {
     let name = format!("file of {} bytes", file.len());
@@ -109,19 +110,21 @@ fn read(
     let mut answers = lengths.map(|length| Bed::<u8>::dirty(rng, false, "answer", length));
     let mut pixels = Bed::<u8>::dirty(rng, false, "pixels", 40_000);
     let mut marks = Bed::<u8>::dirty(rng, false, "marks", 20_000);
-    let [mut header, mut color, mut raster] = answers.clone();
-    let mut buffers = (pixels.clone(), marks.clone());
+    let mut out = Bed::<u8>::dirty(rng, false, "output", 2_000);
+    let [mut header, mut color, mut raster, mut moved] = answers.clone();
+    let mut buffers = (pixels.clone(), marks.clone(), out.clone());
     let wanted = [
         c::header(file, header.lent_mut()),
         c::color(file, 7, color.lent_mut()),
         c::raster(file, buffers.0.lent_mut(), buffers.1.lent_mut(), raster.lent_mut()),
+        c::transcode(file, buffers.2.lent_mut(), moved.lent_mut()),
     ];
-    let calls = ["header", "color", "raster"];
+    let calls = ["header", "color", "raster", "move"];
     for (call, number) in calls.iter().zip(wanted).filter(|(_, number)| *number > 1) {
         reached.push(format!("{call} refused {number}"));
     }
     let raw = answers.each_mut().map(Bed::raw);
-    let ((row, row_len), (mark, mark_len)) = (pixels.raw(), marks.raw());
+    let ((row, row_len), (mark, mark_len), (to, to_len)) = (pixels.raw(), marks.raw(), out.raw());
     let at = file.as_ptr();
     // SAFETY: each slice is as long as is said, and none overlaps another.
     let results = unsafe {
@@ -129,16 +132,62 @@ fn read(
             (bench.calls.header)(at, len, raw[0].0, raw[0].1),
             (bench.calls.color)(at, len, 7, raw[1].0, raw[1].1),
             (bench.calls.raster)(at, len, row, row_len, mark, mark_len, raw[2].0, raw[2].1),
+            (bench.calls.transcode)(at, len, to, to_len, raw[3].0, raw[3].1),
         ]
     };
     let judge = |i: usize, held: &[_]| {
         let call = format!("ingr_{}", calls[i]);
         report::judge_call(&call, format_args!("({name})"), [wanted[i], results[i]], held)
     };
-    judge(0, &[held(&header, &answers[0])]).and(judge(1, &[held(&color, &answers[1])])).and(judge(
-        2,
-        &[held(&buffers.0, &pixels), held(&buffers.1, &marks), held(&raster, &answers[2])],
-    ))
+    judge(0, &[held(&header, &answers[0])])
+        .and(judge(1, &[held(&color, &answers[1])]))
+        .and(judge(
+            2,
+            &[held(&buffers.0, &pixels), held(&buffers.1, &marks), held(&raster, &answers[2])],
+        ))
+        .and(judge(3, &[held(&buffers.2, &out), held(&moved, &answers[3])]))
+}
+
+/// The widest line of which no run is cut, its packed bytes, and so many lines that one more run makes
+/// the file of their runs too long.
+const UNCUT: usize = 32_767;
+const PACKED: usize = 4_096;
+const LINES: usize = 32_769;
+
+/// Moves of packed lines whose pixels go by turns, OFF first, so that each is of `UNCUT` runs in type 9.
+/// All but the last leave 64,511 of the bytes that a file may have; the last is of 32,255 runs, or two
+/// more.
+fn long_moves(bench: &Bench, rng: &mut Rng, bytes: &mut [u8], reached: &mut Vec<String>) -> Found {
+    put(bytes, 4, &[1, 0]);
+    let [ppl, nol] = [UNCUT, LINES].map(|side| (side as u32).to_le_bytes());
+    put(bytes, 184, &[ppl, nol].concat());
+    put(bytes, 195, &[0]);
+    let file = &mut bytes[..1_024 + LINES * PACKED];
+    file[1_024..].fill(0x55);
+    file[1_024..].chunks_mut(PACKED).for_each(|line| line[PACKED - 2] = 0x54);
+    // 2,015 words and most of one, and then a run to the line's end.
+    let last = 1_024 + (LINES - 1) * PACKED;
+    file[last + 4_032..].fill(0);
+    file[last + 4_030] = 0x54;
+    let most = long_move(bench, rng, file, 28);
+    file[last + 4_030] = 0x55;
+    let more = long_move(bench, rng, file, 10);
+    reached.extend([28, 10].map(|number| format!("move refused {number}")));
+    most.and(more)
+}
+
+/// A move that is refused with this number. The model would need too much memory.
+fn long_move(bench: &Bench, rng: &mut Rng, file: &[u8], number: u32) -> Found {
+    let mut out = Bed::<u8>::dirty(rng, false, "output", 2_000);
+    let mut answer = Bed::<u8>::dirty(rng, false, "answer", MOVE_ANSWER);
+    let wanted = (out.clone(), answer.clone());
+    let ((to, to_len), (numbers, len)) = (out.raw(), answer.raw());
+    // SAFETY: as above.
+    let result =
+        unsafe { (bench.calls.transcode)(file.as_ptr(), file.len(), to, to_len, numbers, len) };
+    let held = [held(&wanted.0, &out), held(&wanted.1, &answer)];
+    let given = format_args!("(a packed file of {} bytes)", file.len());
+    report::judge_call("ingr_move", given, [number, result], &held)
 }
 
 /// A picture of words, refused with this number.

@@ -2,14 +2,15 @@
 
 use super::header::{some_entries, Draft};
 use super::large::{self, some_banded, some_large, some_large_picture, some_large_turning};
+use super::moves::{self, Move};
 use super::pairs::{changed, some_pair, Pair};
 use super::picture::{some_small_picture, Picture};
 use super::sheet::{headed, sheet, some_bare, some_lines, Harm, TYPES};
 use super::turning::{faulty, some_turning, Turning, FAULTS};
 use super::{headers, picture, pictures, sheets, turnings};
 use crate::calls::call::Lend;
-use crate::edges::{self, Edge, TurnedEdge, WrittenEdge};
-use crate::model::c::{COLOR_ANSWER, HEADER_ANSWER, RASTER_ANSWER, WRITE_ANSWER};
+use crate::edges::{self, Edge, MovedEdge, TurnedEdge, WrittenEdge};
+use crate::model::c::{COLOR_ANSWER, HEADER_ANSWER, MOVE_ANSWER, RASTER_ANSWER, WRITE_ANSWER};
 use crate::model::{long, word};
 use crate::peer::Peer;
 use crate::rng::Rng;
@@ -23,6 +24,7 @@ pub enum What {
     Edge(Edge),
     WrittenEdge(WrittenEdge),
     TurnedEdge(TurnedEdge),
+    MovedEdge(MovedEdge),
     Peer(Peer),
     /// With the outcome, where it is known without the model.
     Header {
@@ -47,6 +49,12 @@ pub enum What {
     Turning(Turning),
     /// A turning whose result is turned the other way again.
     Trip(Turning),
+    Move(Move),
+    /// A sheet that is moved, and back; whether it must come back byte for byte.
+    ThereAndBack {
+        file: Vec<u8>,
+        returns: bool,
+    },
     /// Files and pictures of more than 2 GB.
     Vast,
 }
@@ -55,8 +63,16 @@ pub const EDGES: &str = "edges by hand";
 pub const OTHER: &str = "sheets of another program";
 /// The other cases that are always run, small ones first.
 pub const SMALL: [&str; 2] = ["lengths of answer slices", "lengths of buffers"];
-pub const FIXED: [&str; 7] =
-    ["headers", "every color", "sheets", "pictures", "turnings", "one bit changed", "large sheets"];
+pub const FIXED: [&str; 8] = [
+    "headers",
+    "every color",
+    "sheets",
+    "pictures",
+    "turnings",
+    "one bit changed",
+    "large sheets",
+    "moves",
+];
 pub const VAST: &str = "more than 2 GB";
 const HEADERS: &str = "headers by chance";
 const COLORS: &str = "colors by chance";
@@ -65,10 +81,23 @@ pub const PAIRS: &str = "pairs by chance";
 const PICTURES: &str = "pictures by chance";
 const TURNINGS: &str = "turnings by chance";
 const TRIPS: &str = "round trips by chance";
+const MOVES: &str = "moves by chance";
+pub const THERE_AND_BACK: &str = "moves there and back by chance";
 const BANDS: &str = "bands by chance";
 const LARGE: &str = "large ones by chance";
-pub const BY_CHANCE: [&str; 9] =
-    [HEADERS, COLORS, SHEETS, PAIRS, PICTURES, TURNINGS, TRIPS, BANDS, LARGE];
+pub const BY_CHANCE: [&str; 11] = [
+    HEADERS,
+    COLORS,
+    SHEETS,
+    PAIRS,
+    PICTURES,
+    TURNINGS,
+    TRIPS,
+    MOVES,
+    THERE_AND_BACK,
+    BANDS,
+    LARGE,
+];
 
 /// Which cases there are.
 #[derive(Clone, Copy, PartialEq)]
@@ -80,7 +109,7 @@ pub enum Extent {
     Whole,
 }
 
-/// The largest edge of the writer in a small extent, in pixels.
+/// The largest edge of the writer in a small extent, in pixels, and of the move, in bytes.
 const SMALL_PICTURE: usize = 3_000;
 
 /// The cases that are always run. No group of them is made before it is come to.
@@ -101,6 +130,7 @@ pub fn fixed(seed: u64, extent: Extent, peers: Vec<Peer>) -> impl Iterator<Item 
         groups.push(Box::new(move |_| all_of(FIXED[4], fixed_turnings(seed))));
         groups.push(Box::new(|rng| all_of(FIXED[5], bits(rng))));
         groups.push(Box::new(|rng| all_of(FIXED[6], larges(rng))));
+        groups.push(Box::new(|rng| all_of(FIXED[7], fixed_moves(rng))));
     }
     if extent == Extent::Whole {
         groups.push(Box::new(|_| all_of(VAST, [What::Vast])));
@@ -122,6 +152,11 @@ fn known(extent: Extent, peers: Vec<Peer>) -> Vec<Case> {
     }
     all.extend(all_of(EDGES, written.into_iter().map(What::WrittenEdge)));
     all.extend(all_of(EDGES, edges::turned_edges().into_iter().map(What::TurnedEdge)));
+    let mut moved = edges::moved_edges();
+    if extent == Extent::Small {
+        moved.retain(|edge| edge.file.len() <= SMALL_PICTURE);
+    }
+    all.extend(all_of(EDGES, moved.into_iter().map(What::MovedEdge)));
     all.extend(all_of(OTHER, peers.into_iter().map(What::Peer)));
     all
 }
@@ -154,13 +189,29 @@ fn answers(rng: &mut Rng) -> Vec<What> {
     }
     let picture = Picture::plain(9, 4, 2, 1, vec![0, 1, 1, 0, 1, 0, 0, 1]);
     let refused = [
-        Picture { kind: 1, ..picture.clone() },
+        Picture { kind: 4, ..picture.clone() },
         Picture { room: picture.room - 4, ..picture.clone() },
         Picture { pixels: vec![2; 8], ..picture.clone() },
     ];
     for picture in refused.into_iter().chain([picture]) {
         for answer in 0..=WRITE_ANSWER + 9 {
             all.push(What::Picture { picture: picture.clone(), answer });
+        }
+    }
+    let (packed, runs) = (moves::plain(rng, 1, 1), moves::plain(rng, 9, 1));
+    let partway = sheet(&Draft { scn: 1, nol: 1, ..Draft::plain(1, 2) }, &[0, 0x59, 2, 0, 1, 0, 8]);
+    let partway = [partway, vec![0]].concat();
+    let other = small_sheet(rng, 2, 0);
+    for (file, room) in [
+        (runs, 2_000),
+        (packed.clone(), 9_000),
+        (packed, 0),
+        (Vec::new(), 9),
+        (partway, 9),
+        (other, 9),
+    ] {
+        for answer in 0..=MOVE_ANSWER + 9 {
+            all.push(What::Move(Move { file: file.clone(), room, answer }));
         }
     }
     all
@@ -292,6 +343,27 @@ fn bits(rng: &mut Rng) -> Vec<What> {
     all
 }
 
+/// Every sheet is moved, and once more back; some that are refused are lent anything.
+fn fixed_moves(rng: &mut Rng) -> Vec<What> {
+    let mut all = Vec::new();
+    for file in moves::fixed(rng) {
+        all.push(What::ThereAndBack { file: file.clone(), returns: false });
+        let answer = some_length(rng, MOVE_ANSWER);
+        all.push(What::Move(moves::lent(rng, file, answer)));
+    }
+    for file in large::moves(rng) {
+        all.push(What::ThereAndBack { file, returns: false });
+    }
+    // Output of every length around what is needed.
+    for (kind, scn) in [(1, 0), (1, 1), (9, 0), (9, 1)] {
+        let file = moves::plain(rng, kind, scn);
+        for room in (0..3).chain(1_020..1_200) {
+            all.push(What::Move(Move { file: file.clone(), room, answer: MOVE_ANSWER }));
+        }
+    }
+    all
+}
+
 fn larges(rng: &mut Rng) -> Vec<What> {
     let mut all = Vec::new();
     for picture in large::pictures(rng) {
@@ -327,6 +399,8 @@ fn some_family(rng: &mut Rng, small: bool) -> &'static str {
         38..=49 => PICTURES,
         50..=59 => TURNINGS,
         60..=63 => TRIPS,
+        66..=68 => MOVES,
+        69..=70 => THERE_AND_BACK,
         64 if !small && rng.one_in(2) => BANDS,
         65 if !small && rng.one_in(15) => LARGE,
         _ => SHEETS,
@@ -368,6 +442,15 @@ fn some_of(rng: &mut Rng, small: bool, family: &str) -> What {
             let way = rng.below(2) as u32;
             What::Trip(some_turning(rng, way))
         }
+        MOVES => {
+            let file = moves::some_move(rng);
+            let answer = some_length(rng, MOVE_ANSWER);
+            What::Move(moves::lent(rng, file, answer))
+        }
+        THERE_AND_BACK => match rng.below(3) {
+            0 => What::ThereAndBack { file: moves::some_move(rng), returns: false },
+            _ => What::ThereAndBack { file: moves::returning(rng), returns: true },
+        },
         BANDS => some_pair_or_raster(rng, BANDS, some_banded),
         LARGE => some_large_case(rng),
         _ => {
@@ -378,7 +461,8 @@ fn some_of(rng: &mut Rng, small: bool, family: &str) -> What {
 }
 
 fn some_large_case(rng: &mut Rng) -> What {
-    match rng.below(6) {
+    match rng.below(7) {
+        6 => What::ThereAndBack { file: large::some_movable(rng), returns: false },
         0 => What::Picture { picture: some_large_picture(rng), answer: WRITE_ANSWER },
         1 => What::Turning(some_large_turning(rng)),
         2 => What::Trip(some_large_turning(rng)),

@@ -1,6 +1,7 @@
 //! Headers, right ones and ones spoiled in known ways.
 
 use super::put;
+use super::sheet::TYPES;
 use crate::model;
 use crate::rng::Rng;
 use std::collections::HashSet;
@@ -57,7 +58,7 @@ impl Draft {
             1 | 2 => rng.range(6, 40),
             _ => rng.range(2, 5),
         };
-        let dtc = rng.pick(&[2, 3, 9, 10]);
+        let dtc = rng.pick(&TYPES);
         let mut draft = Draft::plain(dtc, blocks);
         draft.ppl = some_size(rng);
         draft.nol = some_size(rng);
@@ -221,7 +222,8 @@ pub fn spoil(rng: &mut Rng, draft: &mut Draft, number: u32) {
         }
         15 => draft.ver = other_than(rng, &[3], &[0, 1, 2, 4, 131, 255]),
         16 => {
-            let near = [0, 1, 4, 5, 8, 11, 24, 27, 29, 65, 0x0102, 0x0109, 0x0902, 0x0200, 0x8002];
+            let near =
+                [0, 4, 5, 8, 11, 24, 27, 29, 65, 0x0101, 0x0102, 0x0109, 0x0902, 0x0200, 0x8001];
             draft.dtc = match rng.below(3) {
                 0 => rng.range(11, 65_535) as u16,
                 _ => rng.pick(&near),

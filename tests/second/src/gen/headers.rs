@@ -67,6 +67,8 @@ fn by_hand() -> Vec<Input> {
     assert_eq!(draft.wtf, 510);
     add(draft.bytes(), "type 9 blocks 2 pixels 8 lines 3 resolution 0 0 slo 0 scn 0 ctv 0 cte 0");
     add(Draft { wtf: 509, ..draft.clone() }.bytes(), "refused 13");
+    let packed = "type 1 blocks 2 pixels 8 lines 3 resolution 0 0 slo 0 scn 0 ctv 0 cte 0";
+    add(Draft { dtc: 1, ..draft.clone() }.bytes(), packed);
     let dots = "type 9 blocks 2 pixels 8 lines 3 resolution 2 200 slo 0 scn 0 ctv 0 cte 0";
     add(Draft { drs: -200, ..draft.clone() }.bytes(), dots);
     let most = "type 9 blocks 2 pixels 8 lines 3 resolution 2 32768 slo 0 scn 0 ctv 0 cte 0";

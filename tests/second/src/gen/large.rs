@@ -1,6 +1,7 @@
 //! Large sheets, pictures and turnings: wide, tall, and sheets of a few bands, for a reader that
 //! takes several lines at a time.
 
+use super::moves::{movable, movable_of};
 use super::picture::{dress, Picture};
 use super::sheet::{
     damage, headed, sheet, some_bare, some_body, some_header, some_lines, some_margin, some_row,
@@ -75,15 +76,26 @@ fn longest_bodies(rng: &mut Rng) -> Vec<Vec<u8>> {
 /// A wide or a tall sheet by chance, with headers or without.
 pub fn some_large(rng: &mut Rng, scn: u8) -> Vec<u8> {
     let kind = rng.pick(&TYPES);
-    let (width, height) = match rng.below(8) {
+    let (width, height) = some_sides(rng);
+    some_sheet(rng, kind, scn, width, height)
+}
+
+/// The same, to be moved.
+pub fn some_movable(rng: &mut Rng) -> Vec<u8> {
+    let (kind, scn) = rng.pick(&[(1, 0), (1, 1), (9, 0), (9, 1)]);
+    let (width, height) = some_sides(rng);
+    movable(rng, kind, scn, width, height)
+}
+
+fn some_sides(rng: &mut Rng) -> (usize, usize) {
+    match rng.below(8) {
         0 => (rng.range(1, 3), TALLEST - rng.below(2)),
         1 => (rng.range(1, 100), rng.range(1_000, 3_000)),
         2 => (rng.range(1, 4), rng.range(3_000, 20_000)),
         3 => (rng.range(1_000, 65_535), rng.range(1, 4)),
         4 => (rng.range(500, 1_100), rng.range(5, 60)),
         _ => (rng.pick(&WIDTHS), rng.range(1, 4)),
-    };
-    some_sheet(rng, kind, scn, width, height)
+    }
 }
 
 /// Pixels that a reader might take at a time, the widest line and its neighbors most of all.
@@ -178,6 +190,28 @@ fn some_picture_of(rng: &mut Rng, kind: u16, scn: u32, ppl: usize, nol: usize) -
     let more = rng.pick(&[0, 0, 3, 100, -1]);
     picture.fit_within(more, u32::MAX);
     picture
+}
+
+/// Sheets to be moved: of every width and tall, blank lines and full ones, lines whose pixels go by
+/// turns, and bodies around the longest there are.
+pub fn moves(rng: &mut Rng) -> Vec<Vec<u8>> {
+    let mut all = Vec::new();
+    let sides = WIDTHS.map(|width| (width, 2)).into_iter().chain([(1, 20_000), (17, 2_000)]);
+    for (width, height) in sides {
+        for (kind, scn) in [(1, 0), (1, 1), (9, 0), (9, 1)] {
+            all.push(movable(rng, kind, scn, width, height));
+        }
+    }
+    for width in 65_530..=65_535 {
+        for (first, scn) in [(0, 0), (0, 1), (1, 0), (1, 1)] {
+            let turns: Vec<u16> = (0..width).map(|i| ((i + first) % 2) as u16).collect();
+            // The long line first or last.
+            let rows =
+                if rng.one_in(2) { [turns, vec![1; width]] } else { [vec![0; width], turns] };
+            all.push(movable_of(rng, 1, scn, &rows));
+        }
+    }
+    all
 }
 
 /// The longest sheets under every code, and such as are above 65,536 pixels.

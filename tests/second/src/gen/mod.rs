@@ -4,6 +4,7 @@ pub mod calls;
 pub mod header;
 pub mod headers;
 pub mod large;
+pub mod moves;
 pub mod pairs;
 pub mod picture;
 pub mod pictures;

@@ -146,7 +146,8 @@ pub fn spoil(rng: &mut Rng, picture: &mut Picture, number: u32) {
     match number {
         16 => {
             let near = [
-                0, 1, 4, 8, 11, 24, 27, 29, 65, 258, 259, 265, 266, 65_538, 65_539, 65_545, 65_546,
+                0, 4, 8, 11, 24, 27, 29, 65, 257, 258, 259, 265, 266, 65_537, 65_538, 65_539,
+                65_545, 65_546,
             ];
             picture.kind = match rng.below(3) {
                 0 => rng.range(11, u32::MAX as usize) as u32,
@@ -179,7 +180,7 @@ pub fn spoil(rng: &mut Rng, picture: &mut Picture, number: u32) {
                     1 => last - 1,
                     _ => rng.below(last),
                 };
-                let above = if picture.kind == 9 {
+                let above = if matches!(picture.kind, 1 | 9) {
                     [2, 3, 256, 257, 65_535]
                 } else {
                     [256, 257, 511, 512, 65_535]

@@ -1,6 +1,7 @@
 //! The inputs of mode `write`.
 
 use super::picture::{dress, some_picture, spoil, Picture};
+use super::sheet::{some_row, TYPES};
 use crate::rng::Rng;
 
 /// The numbers the writer refuses with, but for 10, which needs 2 GB, and 27, which is made
@@ -8,13 +9,14 @@ use crate::rng::Rng;
 pub const REJECTIONS: [u32; 9] = [16, 17, 18, 19, 20, 21, 23, 26, 28];
 
 /// The families of the inputs that are always run, and of those by chance.
-pub const FIXED: [&str; 9] = [
+pub const FIXED: [&str; 10] = [
     "limits of the input",
     "long runs",
     "limit of a body",
     "limits of fields",
     "one bit changed",
     "many lines",
+    "packed words",
     "one fault",
     "two faults",
     "too wide, and a fault",
@@ -47,6 +49,7 @@ pub fn fixed(seed: u64) -> Vec<Input> {
     add("limits of fields", limits(&mut rng));
     add("one bit changed", bits());
     add("many lines", many_lines());
+    add("packed words", packed(&mut rng));
     add(
         "one fault",
         REJECTIONS.iter().flat_map(|&n| [n; 20]).map(|n| spoiled(&mut rng, &[n])).collect(),
@@ -135,6 +138,7 @@ fn long_bodies(rng: &mut Rng) -> Vec<Picture> {
         for first in [0, 1] {
             all.push(alternating(rng, 9, ppl, first));
         }
+        all.push(alternating(rng, 1, ppl, 1));
         all.push(alternating(rng, 2, ppl, 0));
         all.push(alternating(rng, 3, ppl, 0));
         // One run more makes no body too long without line headers.
@@ -182,7 +186,9 @@ fn limits(rng: &mut Rng) -> Vec<Picture> {
     let mut all = Vec::new();
     let plain = Picture::plain(9, 4, 2, 1, vec![0, 1, 1, 0, 1, 0, 0, 1, 7, 7]);
     let wraps = |right: u32| [right + 256, right + 65_536, right + (1 << 24), right + (1 << 31)];
-    for kind in (0..=70).chain([2, 3, 9, 10].into_iter().flat_map(wraps)).chain([u32::MAX]) {
+    for kind in
+        (0..=70).chain(TYPES.into_iter().flat_map(|kind| wraps(kind.into()))).chain([u32::MAX])
+    {
         all.push(Picture { kind, ..plain.clone() });
     }
     for slo in (0..=10).chain(wraps(0)).chain(wraps(7)).chain([255, u32::MAX]) {
@@ -221,7 +227,7 @@ fn limits(rng: &mut Rng) -> Vec<Picture> {
         all.push(Picture { room: room as u32, ..plain.clone() });
     }
     // The largest pixels, and the smallest that are too large.
-    for (kind, most) in [(2, 255), (9, 1), (3, 65_535), (10, 65_535)] {
+    for (kind, most) in [(1, 1), (2, 255), (9, 1), (3, 65_535), (10, 65_535)] {
         for pixel in [most, most + 1, 65_535] {
             for at in 0..plain.pixels.len() {
                 let mut picture = Picture { kind, ..plain.clone() };
@@ -233,7 +239,7 @@ fn limits(rng: &mut Rng) -> Vec<Picture> {
     }
     // Widths up to 70,000 with all their pixels.
     for ppl in [65_535, 65_536, 65_537, 70_000] {
-        for kind in [2, 9] {
+        for kind in [1, 2, 9] {
             all.push(Picture::plain(kind, ppl, 1, 1, vec![1; ppl]));
         }
     }
@@ -259,8 +265,10 @@ fn bits() -> Vec<Picture> {
 fn many_lines() -> Vec<Picture> {
     let mut all = Vec::new();
     for (kind, nol, scn) in [
+        (1, 65_535, 0),
         (2, 65_535, 0),
         (9, 65_535, 0),
+        (1, 39_000, 1),
         (3, 30_000, 1),
         (2, 39_000, 1),
         (9, 300, 1),
@@ -272,6 +280,17 @@ fn many_lines() -> Vec<Picture> {
     // More than the room can hold, and one line more than there may be.
     all.push(Picture { room: 400_000, ..Picture::plain(2, 1, 65_535, 1, vec![1; 65_535]) });
     all.push(Picture::plain(2, 1, 65_536, 0, vec![1; 65_536]));
+    all
+}
+
+/// Rows of type 1 of every width around what fills words: full, with a pixel at each end, by chance.
+fn packed(rng: &mut Rng) -> Vec<Picture> {
+    let mut all = Vec::new();
+    for ppl in (1..=34).chain([47, 48, 49, 63, 64, 65, 127, 128, 129, 255, 256, 257]) {
+        let ends = (0..ppl).map(|i| u16::from(i == 0 || i == ppl - 1)).collect();
+        let pixels = [vec![1; ppl], ends, some_row(rng, 1, ppl)].concat();
+        all.extend([0, 1].map(|scn| Picture::plain(1, ppl, 3, scn, pixels.clone())));
+    }
     all
 }
 

@@ -3,7 +3,7 @@
 use super::header::{some_cte, some_drs, some_entries, Draft};
 use crate::rng::Rng;
 
-pub const TYPES: [u16; 4] = [2, 3, 9, 10];
+pub const TYPES: [u16; 5] = [1, 2, 3, 9, 10];
 
 /// A line with its header, every field of which may be wrong.
 #[derive(Clone)]
@@ -88,7 +88,7 @@ pub fn some_size(rng: &mut Rng) -> (usize, usize) {
 pub fn some_row(rng: &mut Rng, kind: u16, width: usize) -> Vec<u16> {
     let most = match kind {
         2 => 255,
-        9 => 1,
+        1 | 9 => 1,
         _ => 65_535,
     };
     let value = |rng: &mut Rng| match rng.below(4) {
@@ -117,6 +117,7 @@ pub fn some_row(rng: &mut Rng, kind: u16, width: usize) -> Vec<u16> {
 /// runs anywhere if `loose`. With line headers the body is closed as the format wants it.
 pub fn some_body(rng: &mut Rng, kind: u16, row: &[u16], loose: bool, headers: bool) -> Vec<u8> {
     match kind {
+        1 => words(&packed(row)),
         2 => {
             let mut body: Vec<u8> = row.iter().map(|&pixel| pixel as u8).collect();
             if headers && row.len() % 2 == 1 {
@@ -139,6 +140,23 @@ pub fn some_body(rng: &mut Rng, kind: u16, row: &[u16], loose: bool, headers: bo
             }
             words(&pairs)
         }
+    }
+}
+
+/// Sixteen pixels to a word: each moves those before it up.
+fn packed(row: &[u16]) -> Vec<u16> {
+    let word = |part: &[u16]| {
+        let bits = part.iter().chain(&[0; 16]).take(16);
+        bits.fold(0, |word, pixel| word << 1 | pixel)
+    };
+    row.chunks(16).map(word).collect()
+}
+
+/// The bits that the last word of so many pixels has to spare.
+pub fn spare_bits(pixels: usize) -> u16 {
+    match pixels % 16 {
+        0 => 0,
+        used => u16::MAX >> used,
     }
 }
 
@@ -244,18 +262,20 @@ pub enum Flaw {
     Number,
     Offset,
     Count,
+    Spare,
     Above,
     Below,
     Misfit,
 }
 
-pub const FLAWS: [Flaw; 9] = [
+pub const FLAWS: [Flaw; 10] = [
     Flaw::Identifier,
     Flaw::FollowBelowTwo,
     Flaw::FollowPastFile,
     Flaw::Number,
     Flaw::Offset,
     Flaw::Count,
+    Flaw::Spare,
     Flaw::Above,
     Flaw::Below,
     Flaw::Misfit,
@@ -290,6 +310,12 @@ pub fn damage(rng: &mut Rng, line: &mut Line, kind: u16, ppl: usize, flaw: Flaw)
             None => misfit(rng, line, kind, ppl),
         },
         Flaw::Count => wrong_count(rng, &mut line.body, kind),
+        Flaw::Spare => {
+            let pixels = ppl.saturating_sub(line.offset.into());
+            if kind != 1 || !set_spare(rng, &mut line.body, pixels) {
+                wrong_count(rng, &mut line.body, kind);
+            }
+        }
         Flaw::Above | Flaw::Below if kind <= 3 => wrong_count(rng, &mut line.body, kind),
         Flaw::Above => {
             let by = match rng.below(4) {
@@ -324,11 +350,28 @@ fn misfit(rng: &mut Rng, line: &mut Line, kind: u16, ppl: usize) {
     line.body = some_body(rng, kind, &row, true, true);
 }
 
+/// Sets one of the bits that packed words for so many pixels have to spare, or several; false where
+/// there are none.
+pub fn set_spare(rng: &mut Rng, body: &mut [u8], pixels: usize) -> bool {
+    let (bits, last) = (spare_bits(pixels), 2 * (pixels / 16));
+    let Some(word) = body.get_mut(last..last + 2).filter(|_| bits > 0) else {
+        return false;
+    };
+    let set = match rng.below(4) {
+        0 => 1,
+        1 => bits ^ bits >> 1,
+        2 => bits,
+        _ => 1 << rng.below(bits.count_ones() as usize),
+    };
+    word.iter_mut().zip(set.to_le_bytes()).for_each(|(byte, more)| *byte |= more);
+    true
+}
+
 fn wrong_count(rng: &mut Rng, body: &mut Vec<u8>, kind: u16) {
     match (kind, rng.below(4)) {
-        (2 | 3, 0) => body.extend([0, 0, 0, 0]),
+        (1..=3, 0) => body.extend([0, 0, 0, 0]),
         (_, 1) if body.len() >= 2 => body.truncate(body.len() - 2),
-        (2 | 3, 2) if !body.is_empty() => body.clear(),
+        (1..=3, 2) if !body.is_empty() => body.clear(),
         // The total as it was.
         (_, 3) => body.extend([0, 0]),
         _ => body.extend(rng.bytes(2)),
@@ -392,10 +435,22 @@ pub enum Harm {
 
 /// The lines of a sheet with headers, with damage.
 pub fn some_lines(rng: &mut Rng, kind: u16, ppl: usize, nol: usize, harm: Harm) -> Vec<Line> {
+    let margin = some_margin(rng, ppl);
+    lines_within(rng, kind, ppl, nol, harm, margin)
+}
+
+/// The same, starting in known columns.
+pub fn lines_within(
+    rng: &mut Rng,
+    kind: u16,
+    ppl: usize,
+    nol: usize,
+    harm: Harm,
+    margin: Margin,
+) -> Vec<Line> {
     let loose = rng.one_in(2);
     let rate = rng.pick(&[1, 2, 3, 8]);
     let lost = rng.range(1, nol);
-    let margin = some_margin(rng, ppl);
     let mut lines = Vec::new();
     for k in 1..=nol {
         let offset = margin.offset(rng, ppl);

@@ -3,19 +3,21 @@
 use super::header::{spoiled, words_to_follow, Draft};
 use super::sheet::{
     damage, headed, sheet, some_bare, some_body, some_header, some_lines, some_margin, some_row,
-    some_size, words, Flaw, Harm, Line, FLAWS, TYPES,
+    some_size, spare_bits, words, Flaw, Harm, Line, FLAWS, TYPES,
 };
 use crate::model::probe::{LISTING_LIMIT, LISTING_MARKS, LISTING_PIXELS};
 use crate::rng::Rng;
 use std::collections::BTreeSet;
 
 /// The families of the inputs that are always run, and of those by chance.
-pub const FIXED: [&str; 10] = [
+pub const FIXED: [&str; 12] = [
     "limit of the input",
     "flaws of a line, all together",
     "lines that start partway",
     "every short body",
     "every short raster without headers",
+    "every bit of packed words",
+    "every bit of packed words without headers",
     "cut at every byte",
     "words to follow",
     "one bit changed",
@@ -51,6 +53,8 @@ pub fn fixed(seed: u64) -> Vec<Input> {
     add("lines that start partway", partway(&mut rng));
     add("every short body", short_bodies());
     add("every short raster without headers", short_rasters());
+    add("every bit of packed words", packed_bodies());
+    add("every bit of packed words without headers", packed_rasters(&mut rng));
     add("cut at every byte", cuts(&mut rng));
     add("words to follow", follows());
     add("one bit changed", bits());
@@ -76,6 +80,9 @@ fn flaws(rng: &mut Rng) -> Vec<Vec<u8>> {
                 continue;
             }
             if kind <= 3 && (has(Flaw::Above) || has(Flaw::Below)) {
+                continue;
+            }
+            if kind != 1 && has(Flaw::Spare) {
                 continue;
             }
             let ppl = rng.range(1, 12);
@@ -106,7 +113,9 @@ fn flaws(rng: &mut Rng) -> Vec<Vec<u8>> {
 fn partway(rng: &mut Rng) -> Vec<Vec<u8>> {
     let mut all = Vec::new();
     for kind in TYPES {
-        for ppl in [1, 2, 3, 8, 9, 17] {
+        // On both sides of what fills words, where they are packed.
+        let widths = if kind == 1 { [2, 3, 16, 17, 32, 33] } else { [1, 2, 3, 8, 9, 17] };
+        for ppl in widths {
             let header = Draft { scn: 1, ppl: ppl as u32, nol: 3, ..Draft::plain(kind, 2) };
             for offset in BTreeSet::from([0, 1, ppl / 2, ppl - 1, ppl, ppl + 1, 65_535]) {
                 for (pixels, flaw) in fits_and_misfits(kind, ppl, offset) {
@@ -137,7 +146,8 @@ fn fits_and_misfits(kind: u16, ppl: usize, offset: usize) -> Vec<(usize, Option<
     let lengths: BTreeSet<usize> = others.into_iter().chain([fit]).collect();
     let short = |pixels: &usize| kind > 3 || *pixels <= 100;
     let flaws = match kind {
-        2 | 3 => &[Flaw::Number, Flaw::Count][..],
+        1 => &[Flaw::Number, Flaw::Count, Flaw::Spare][..],
+        2 | 3 => &[Flaw::Number, Flaw::Count],
         _ => &[Flaw::Number, Flaw::Count, Flaw::Above, Flaw::Below],
     };
     let lengths = lengths.into_iter().filter(short).map(|pixels| (pixels, None));
@@ -178,7 +188,7 @@ fn lists(most: usize) -> Vec<Vec<u16>> {
 fn short_bodies() -> Vec<Vec<u8>> {
     let mut all = Vec::new();
     let starts = |ppl: usize| (0..=ppl + 1).map(move |offset| (ppl, offset));
-    for kind in TYPES {
+    for kind in TYPES.into_iter().filter(|kind| *kind != 1) {
         for (ppl, offset) in (1..=3).flat_map(starts) {
             for bodies in lists(5).chunks(200) {
                 let lines: Vec<Line> = bodies
@@ -192,6 +202,66 @@ fn short_bodies() -> Vec<Vec<u8>> {
                 header.nol = lines.len() as u32;
                 all.push(headed(&header, &lines));
             }
+        }
+    }
+    all
+}
+
+/// Packed bodies of up to two words with one bit set in each, or none, around what fills words and
+/// under offsets.
+fn packed_bodies() -> Vec<Vec<u8>> {
+    let single: Vec<u16> = (0..16).map(|bit| 1 << bit).chain([0]).collect();
+    let mut bodies: Vec<Vec<u16>> = vec![Vec::new()];
+    bodies.extend(single.iter().map(|&word| vec![word]));
+    bodies
+        .extend(single.iter().flat_map(|&first| single.iter().map(move |&last| vec![first, last])));
+    let mut all = Vec::new();
+    for (ppl, offset) in [
+        (1, 0),
+        (8, 0),
+        (15, 0),
+        (16, 0),
+        (17, 0),
+        (18, 1),
+        (18, 2),
+        (18, 3),
+        (20, 18),
+        (31, 0),
+        (32, 0),
+        (33, 0),
+        (33, 1),
+        (17, 17),
+        (17, 18),
+    ] {
+        for bodies in bodies.chunks(200) {
+            let lines: Vec<Line> = bodies
+                .iter()
+                .enumerate()
+                .map(|(i, body)| Line::starting(i + 1, offset, words(body)))
+                .collect();
+            let (ppl, nol) = (ppl as u32, lines.len() as u32);
+            all.push(headed(&Draft { scn: 1, ppl, nol, ..Draft::plain(1, 2) }, &lines));
+        }
+    }
+    all
+}
+
+/// Two packed lines without headers, blank or not, with every bit of the first changed: with a spare bit
+/// set the second still follows it.
+fn packed_rasters(rng: &mut Rng) -> Vec<Vec<u8>> {
+    let mut all = Vec::new();
+    for ppl in [1, 8, 15, 16, 17, 33] {
+        let header = Draft { ppl: ppl as u32, nol: 2, ..Draft::plain(1, 2) };
+        let rows = [vec![0; ppl], some_row(rng, 1, ppl)];
+        for row in rows {
+            let body = some_body(rng, 1, &row, false, false);
+            let plain = sheet(&header, &[&body[..], &body].concat());
+            for bit in 0..8 * body.len() {
+                let mut file = plain.clone();
+                file[1_024 + bit / 8] ^= 1 << (bit % 8);
+                all.push(file);
+            }
+            all.push(plain);
         }
     }
     all
@@ -217,9 +287,15 @@ fn cuts(rng: &mut Rng) -> Vec<Vec<u8>> {
     let mut all = Vec::new();
     for kind in TYPES {
         for scn in [0, 1] {
-            let (ppl, nol) = (if kind == 2 { 5 } else { 4 }, 3);
+            // Two words a line where pixels are packed, in each line.
+            let ppl = match kind {
+                1 => 20,
+                2 => 5,
+                _ => 4,
+            };
+            let nol = 3;
             let header = Draft { scn, ppl, nol, ..Draft::plain(kind, 2) };
-            let row: Vec<u16> = vec![0, 1, 1, 0, 1][..ppl as usize].to_vec();
+            let row: Vec<u16> = [0, 1, 1, 0, 1].into_iter().cycle().take(ppl as usize).collect();
             let raster: Vec<u8> = (0..nol as usize)
                 .flat_map(|offset| match scn {
                     0 => some_body(rng, kind, &row, false, false),
@@ -258,6 +334,7 @@ fn follows() -> Vec<Vec<u8>> {
 fn bits() -> Vec<Vec<u8>> {
     let mut all = Vec::new();
     for (kind, body) in [
+        (1, words(&[0xB000])),
         (2, words(&[0x0605, 0x0807])),
         (3, words(&[1, 256, 32_768, 9])),
         (9, words(&[1, 2, 1])),
@@ -369,7 +446,7 @@ fn sizes(rng: &mut Rng) -> Vec<Vec<u8>> {
 }
 
 /// A sheet whose header is refused.
-fn refused(rng: &mut Rng, numbers: &[u32]) -> Vec<u8> {
+pub fn refused(rng: &mut Rng, numbers: &[u32]) -> Vec<u8> {
     loop {
         let header = spoiled(rng, numbers);
         if header.len < 20_000 {
@@ -504,6 +581,8 @@ fn noise(rng: &mut Rng, kind: u16, ppl: usize, nol: usize) -> Vec<u8> {
             0 => rng.word(),
             1 => rng.range(0, ppl) as u16,
             2 => 0,
+            // Words that fit as a rule, the last of a line too.
+            3..=6 if kind == 1 => rng.word() & !spare_bits(ppl),
             _ => rng.below(8) as u16,
         })
         .collect();

@@ -4,16 +4,19 @@
 use super::starts;
 use crate::calls::call::{numbers, Bench, Done, Lend, Read};
 use crate::calls::{demand_3, vast, Calls};
-use crate::edges::{Edge, TurnedEdge, WrittenEdge};
+use crate::edges::{Edge, MovedEdge, TurnedEdge, WrittenEdge};
 use crate::gen::calls::{
     fixed, needed as enough_for, random, some_lend, Case, Extent, What, BY_CHANCE, EDGES, FIXED,
     OTHER, SMALL, VAST,
 };
+use crate::gen::moves::Move;
 use crate::gen::pairs::{Pair, EFFECTS};
 use crate::gen::picture::Picture;
 use crate::gen::sheet::{words, TYPES};
 use crate::gen::turning::Turning;
-use crate::model::c::{self, COLOR_ANSWER, HEADER_ANSWER, RASTER_ANSWER, WRITE_ANSWER};
+use crate::model::c::{
+    self, COLOR_ANSWER, HEADER_ANSWER, MOVE_ANSWER, RASTER_ANSWER, WRITE_ANSWER,
+};
 use crate::model::header::Resolution;
 use crate::model::probe::{LISTING_MARKS, LISTING_PIXELS};
 use crate::model::{long, word};
@@ -26,9 +29,14 @@ use std::process::ExitCode;
 pub const NAME: &str = "c_calls";
 pub const DEFAULT_COUNT: u64 = 1_000_000;
 /// In a small extent.
-pub const SMALL_COUNT: u64 = 1_500;
+pub const SMALL_COUNT: u64 = 1_800;
 /// So many cases must have some of every kind that is by chance.
 const ENOUGH: usize = 100_000;
+/// Moves that a default count must have made.
+const MOVES: usize = 20_000;
+const CALLED: &str = "ingr_move called";
+/// No more bytes than so many are lent to a move, whatever the sheet says.
+const MOST_ROOM: usize = 1 << 21;
 
 /// Which cases are run, besides what the plan says.
 pub struct Scope {
@@ -42,7 +50,7 @@ pub fn run(calls: &Calls, peer: &Path, scope: &Scope, plan: &Plan) -> Result<Exi
     let bench = Bench { calls, bare: extent == Extent::Small };
     let mut fixed = fixed(plan.seed, extent, Peer::all(peer)?);
     let needed = match family {
-        Some(family) => Needed { reached: Vec::new(), families: vec![family] },
+        Some(family) => Needed { families: vec![family], ..Needed::default() },
         None => needed(extent, plan),
     };
     Ok(report::walk(NAME, plan, &needed, |i| {
@@ -70,10 +78,12 @@ fn needed(extent: Extent, plan: &Plan) -> Needed {
     add("color", &[&header[..], &[25]].concat());
     add("raster", &[&header[..], &[23, 24]].concat());
     add("write", &[16, 26, 28, 29]);
+    add("move", &[11, 16, 18, 22, 28, 29, 30, 41, 42]);
     for way in ["upright", "back"] {
         add(way, &[17, 19, 20, 23, 31]);
     }
     reached.extend(["header accepted", "color by table 0", "answer 0", "answer 1"].map(Into::into));
+    reached.extend([1, 9].iter().flat_map(|kind| [0, 1].map(|scn| moved(*kind, scn))));
     for length in ["just enough", "more", "odd", "0"] {
         reached.push(format!("pixel slice {length}"));
         reached.push(format!("mark slice {length}"));
@@ -85,7 +95,7 @@ fn needed(extent: Extent, plan: &Plan) -> Needed {
         reached.extend((0..8).map(|slo| format!("{way} {slo}")));
     }
     if extent == Extent::Small {
-        return Needed { reached, families };
+        return Needed { reached, families, often: Vec::new() };
     }
     families.extend(FIXED);
     let mut add = |call: &str, numbers: Vec<u32>| {
@@ -95,9 +105,11 @@ fn needed(extent: Extent, plan: &Plan) -> Needed {
         add(call, (11..=22).collect());
     }
     add("write", vec![17, 18, 19, 20, 21, 23, 27]);
+    add("move", (11..=22).chain([27]).collect());
+    reached.extend(["comes back", "bytes after the last line dropped"].map(Into::into));
     reached.extend([1, 2].map(|ctv| format!("color by table {ctv}")));
-    reached.extend((0..=9).map(|mark| format!("mark {mark} with headers")));
-    reached.extend([0, 1, 7, 9].map(|mark| format!("mark {mark} without")));
+    reached.extend((0..=10).map(|mark| format!("mark {mark} with headers")));
+    reached.extend([0, 1, 7, 9, 10].map(|mark| format!("mark {mark} without")));
     reached.extend(starts::all());
     for kind in TYPES {
         reached.extend((0..=1).map(|scn| format!("written type {kind} scn {scn}")));
@@ -116,9 +128,12 @@ fn needed(extent: Extent, plan: &Plan) -> Needed {
     }
     if extent == Extent::Whole {
         families.push(VAST);
-        reached.extend(["header", "color", "raster", "write"].map(|c| format!("{c} refused 10")));
+        let calls = ["header", "color", "raster", "write", "move"];
+        reached.extend(calls.map(|c| format!("{c} refused 10")));
     }
-    Needed { reached, families }
+    let often =
+        if plan.count >= DEFAULT_COUNT as usize { vec![(CALLED, MOVES)] } else { Vec::new() };
+    Needed { reached, families, often }
 }
 
 fn check(bench: &Bench, rng: &mut Rng, case: &Case) -> Outcome {
@@ -127,6 +142,7 @@ fn check(bench: &Bench, rng: &mut Rng, case: &Case) -> Outcome {
         What::Edge(edge) => check_edge(bench, rng, edge, &mut reached),
         What::WrittenEdge(edge) => check_written_edge(bench, rng, edge, &mut reached),
         What::TurnedEdge(edge) => check_turned_edge(bench, rng, edge, &mut reached),
+        What::MovedEdge(edge) => check_moved_edge(bench, rng, edge, &mut reached),
         What::Peer(peer) => check_peer(bench, rng, peer, &mut reached),
         What::Header { file, answer, first } => {
             let (done, found) = bench.header(rng, file, *answer);
@@ -158,6 +174,12 @@ fn check(bench: &Bench, rng: &mut Rng, case: &Case) -> Outcome {
         }
         What::Turning(turning) => check_turning(bench, rng, turning, &mut reached).1,
         What::Trip(turning) => check_trip(bench, rng, turning, &mut reached),
+        What::Move(Move { file, room, answer }) => {
+            check_move(bench, rng, file, [*room, *answer], &mut reached).1
+        }
+        What::ThereAndBack { file, returns } => {
+            check_there_and_back(bench, rng, file, *returns, &mut reached)
+        }
         What::Vast => vast::check(bench, &mut reached),
     };
     Outcome { family: case.family, reached, found }
@@ -334,6 +356,18 @@ fn check_peer(bench: &Bench, rng: &mut Rng, peer: &Peer, reached: &mut Vec<Strin
             }));
         }
     }
+    if note("DTC") == 9 {
+        // Its pixels as noted, in the other type too.
+        let [back, moved] = trip(bench, rng, &peer.file, reached);
+        found = found.and(back.1).and(moved.1);
+        let (read, also) = bench.raster(rng, &moved.0, enough_for(&moved.0));
+        let known = Known { end: moved.0.len() as u64, ..known };
+        found = found.and(also.then(|| known.compare(&read)));
+        found = found.then(|| match back.0 == peer.file {
+            true => Ok(()),
+            false => Err(wrong("moved and moved back: other bytes", Vec::new())),
+        });
+    }
     found.named(peer.name)
 }
 
@@ -503,4 +537,111 @@ fn check_trip(bench: &Bench, rng: &mut Rng, turning: &Turning, reached: &mut Vec
         true => Ok(()),
         false => Err(wrong("round trip: other pixels come back", Vec::new())),
     }))
+}
+
+fn moved(kind: u64, scn: u8) -> String {
+    format!("moved from type {kind} scn {scn}")
+}
+
+/// Moves a sheet into so many bytes, with so many for the answer. What was moved is the first part of
+/// the output.
+fn check_move(
+    bench: &Bench,
+    rng: &mut Rng,
+    file: &[u8],
+    [room, answer]: [usize; 2],
+    reached: &mut Vec<String>,
+) -> (Done<u8>, Found) {
+    let (mut done, found) = bench.transcode(rng, file, room, answer);
+    reached.push(CALLED.to_string());
+    reached.push(match done.result {
+        0 => moved(word(file, 4), file[195]),
+        number => format!("move refused {number}"),
+    });
+    let answered = done.result == 0 && answer >= MOVE_ANSWER;
+    done.filled.truncate(if answered { long(&done.answer, 0) as usize } else { 0 });
+    (done, found)
+}
+
+fn check_moved_edge(
+    bench: &Bench,
+    rng: &mut Rng,
+    edge: &MovedEdge,
+    reached: &mut Vec<String>,
+) -> Found {
+    let (done, found) = check_move(bench, rng, &edge.file, [edge.room, MOVE_ANSWER], reached);
+    let by_hand = || match &edge.outcome {
+        Err(number) => refused_with(done.result, *number),
+        Ok(to) if done.result == 0 && done.filled == *to => Ok(()),
+        Ok(_) => Err(wrong("not the sheet written out by hand", Vec::new())),
+    };
+    found.then(by_hand).named(edge.name)
+}
+
+/// More than a sheet that is moved needs: a word for each pixel, and for each line a header and some
+/// runs of 0.
+fn room_for(file: &[u8]) -> usize {
+    let Lend { pixels, marks, .. } = enough_for(file);
+    (file.len() + pixels + 16 * marks).min(MOST_ROOM)
+}
+
+/// What came back, and what it was moved to before; each is empty where a move is refused.
+fn trip(
+    bench: &Bench,
+    rng: &mut Rng,
+    file: &[u8],
+    reached: &mut Vec<String>,
+) -> [(Vec<u8>, Found); 2] {
+    let (there, found) = check_move(bench, rng, file, [room_for(file), MOVE_ANSWER], reached);
+    let lent = [room_for(file), MOVE_ANSWER];
+    let (back, also) = check_move(bench, rng, &there.filled, lent, reached);
+    [(back.filled, also), (there.filled, found)]
+}
+
+/// Moves a sheet, and what came of it back. First what holds of the calls by themselves, whatever the
+/// model says: a sheet of type 1 or with the writer's bodies comes back as it was, but for what follows
+/// its last line; what came back of any other does; and all read alike.
+fn check_there_and_back(
+    bench: &Bench,
+    rng: &mut Rng,
+    file: &[u8],
+    returns: bool,
+    reached: &mut Vec<String>,
+) -> Found {
+    let [(back, also), (there, found)] = trip(bench, rng, file, reached);
+    let mut found = found.and(also);
+    if there.is_empty() {
+        return match returns {
+            true => found.after(|| Err(wrong("there and back: refused", Vec::new()))),
+            false => found,
+        };
+    }
+    let lend = enough_for(file);
+    let [first, second, third] = [file, &there, &back].map(|file| bench.raster(rng, file, lend).0);
+    let end = numbers(first.answer.lent(), 2)[1] as usize;
+    let packed = word(file, 4) == 1;
+    let mut told = Ok(());
+    if (returns || packed) && file.get(..end) != Some(&back[..]) {
+        told = Err("other bytes come back");
+    } else if !(returns || packed) {
+        let [(again, also), (once_more, too)] = trip(bench, rng, &back, reached);
+        found = found.and(too).and(also);
+        if (&again, &once_more) != (&back, &there) {
+            told = Err("what came back comes back otherwise");
+        }
+    }
+    for (read, of) in [(&second, &there), (&third, &back)] {
+        let pixels = &first.pixels.lent()[..lend.pixels] == &read.pixels.lent()[..lend.pixels];
+        if read.result != 0 || !pixels || numbers(read.answer.lent(), 2)[1] != of.len() as u64 {
+            told = told.and(Err("it does not read as it did"));
+        }
+    }
+    reached.push("comes back".to_string());
+    if end < file.len() {
+        reached.push("bytes after the last line dropped".to_string());
+    }
+    found.after(|| {
+        let dumps = || vec![("file", file.to_vec()), ("moved", there), ("back", back)];
+        told.map_err(|text| wrong(format!("there and back: {text}"), dumps()))
+    })
 }

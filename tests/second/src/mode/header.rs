@@ -42,7 +42,7 @@ fn needed(plan: &Plan) -> Needed {
     if plan.count >= DEFAULT_COUNT as usize {
         families.extend(BY_CHANCE);
     }
-    Needed { reached, families }
+    Needed { reached, families, ..Needed::default() }
 }
 
 fn check(program: &Program, rng: &mut Rng, input: &Input) -> io::Result<Outcome> {

@@ -24,9 +24,9 @@ pub fn run(program: &Program, plan: &Plan) -> ExitCode {
 /// All pairs are by chance: too few of them do not reach all of this.
 fn needed() -> Needed {
     let mut reached: Vec<String> =
-        (0..=9).map(|mark| format!("mark {mark} with headers")).collect();
+        (0..=10).map(|mark| format!("mark {mark} with headers")).collect();
     reached.extend(EFFECTS.map(String::from));
-    Needed { reached, families: FAMILIES.to_vec() }
+    Needed { reached, families: FAMILIES.to_vec(), ..Needed::default() }
 }
 
 fn check(program: &Program, rng: &mut Rng, pair: &Pair) -> io::Result<Outcome> {

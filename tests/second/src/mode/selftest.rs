@@ -3,7 +3,7 @@
 
 use crate::calls::stand_in;
 use crate::fake;
-use crate::gen::calls::PAIRS;
+use crate::gen::calls::{PAIRS, THERE_AND_BACK};
 use crate::peer;
 use std::fs::{self, Permissions};
 use std::io;
@@ -64,9 +64,9 @@ const MODES: [&str; 5] = ["header", "sheets", "pairs", "write", "turn"];
 /// Those that read sheets of the other program.
 const WITH_PEERS: [&str; 3] = ["header", "sheets", "write"];
 
-/// What no pair shows: none is longer than the listing program takes, and hardly any has a body
-/// for as many pixels as an offset that is too far leaves in 16 bits.
-const NOT_IN_PAIRS: [&str; 2] = ["cuts-long-input", "offset-in-16-bits"];
+/// What no pair shows: none is longer than the listing program takes, hardly any has a body for as
+/// many pixels as an offset that is too far leaves in 16 bits, and all have line headers.
+const NOT_IN_PAIRS: [&str; 3] = ["cuts-long-input", "offset-in-16-bits", "10-loses-chain"];
 
 /// The modes that try a stand-in.
 fn modes_of(program: &str) -> impl Iterator<Item = &'static str> + '_ {
@@ -252,7 +252,15 @@ impl Bench {
             ));
         }
         trials.push(trial("pairs", right, &["--family", PAIRS, "--count", "300"], Wanted::Passes));
-        let told = ["no case was run", "no case reached", "no case is one of"];
+        // The way there and back by itself, too.
+        let returns = ["--family", THERE_AND_BACK, "--count", "300"];
+        for (name, told) in stand_in::OF_RETURNS {
+            let wanted = tells(&[&format!("there and back: {told}")]);
+            trials.push(trial(&format!("{name}, there and back"), name, &returns, wanted));
+        }
+        trials.push(trial("moves there and back", right, &returns, Wanted::Passes));
+        let told =
+            ["no case was run", "no case reached", "no case is one of", "ingr_move called 0 times"];
         let missing = self.path("missing");
         for (with, more, told) in [
             ("a count of 0", ["--count", "0"], &["compare nothing"][..]),

@@ -46,8 +46,8 @@ pub fn run(program: &Program, peer: &Path, plan: &Plan) -> Result<ExitCode, Stri
 
 fn needed(plan: &Plan) -> Needed {
     let mut reached: Vec<String> = (11..=24).map(|number| format!("refused {number}")).collect();
-    reached.extend((0..=9).map(|mark| format!("mark {mark} with headers")));
-    reached.extend([0, 1, 7, 9].map(|mark| format!("mark {mark} without")));
+    reached.extend((0..=10).map(|mark| format!("mark {mark} with headers")));
+    reached.extend([0, 1, 7, 9, 10].map(|mark| format!("mark {mark} without")));
     reached.extend(starts::all());
     reached.extend(["answer 0", "answer 1", "too long"].map(String::from));
     let mut families = vec![OTHER, EDGES];
@@ -55,7 +55,7 @@ fn needed(plan: &Plan) -> Needed {
     if plan.count >= DEFAULT_COUNT as usize {
         families.extend(BY_CHANCE);
     }
-    Needed { reached, families }
+    Needed { reached, families, ..Needed::default() }
 }
 
 /// What the model makes of a sheet: a rejection, or answer, marks, and where lines start.

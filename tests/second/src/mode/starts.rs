@@ -13,7 +13,7 @@ pub fn reached(kind: u64, ppl: u64, lines: impl Iterator<Item = (u64, u8)>) -> V
     let columns =
         [("1", 1), ("P - 1", ppl - 1), ("P", ppl), ("P + 1", ppl + 1), ("65,535", 65_535)];
     let mut seen = BTreeSet::new();
-    for (offset, mark) in lines.filter(|(_, mark)| matches!(mark, 0 | 4..=8)) {
+    for (offset, mark) in lines.filter(|(_, mark)| matches!(mark, 0 | 4..=8 | 10)) {
         let names = columns.iter().filter(|column| column.1 == offset);
         seen.extend(names.map(|(name, _)| (*name, mark)));
     }
@@ -30,6 +30,8 @@ pub fn all() -> Vec<String> {
         marked(&TYPES, &INSIDE, &[0, 4, 6]),
         marked(&TYPES, &["P + 1", "65,535"], &[4, 5]),
         marked(&[9, 10], &INSIDE, &[7]),
+        // No word of no pixels has bits to spare.
+        marked(&[1], &INSIDE[..2], &[10]),
         // No total is below 0.
         marked(&[9, 10], &INSIDE[..2], &[8]),
     ]

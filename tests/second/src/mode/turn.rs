@@ -46,7 +46,7 @@ fn needed(plan: &Plan) -> Needed {
     if plan.count >= DEFAULT_COUNT as usize {
         families.extend(BY_CHANCE);
     }
-    Needed { reached, families }
+    Needed { reached, families, ..Needed::default() }
 }
 
 fn way_of(way: u32) -> &'static str {

@@ -4,6 +4,7 @@
 use crate::edges::{self, WrittenEdge};
 use crate::gen::picture::Picture;
 use crate::gen::pictures::{fixed, random, Input, What, BY_CHANCE, FIXED, REJECTIONS};
+use crate::gen::sheet::TYPES;
 use crate::gen::some_pause;
 use crate::model::header::{self, Resolution};
 use crate::model::probe::{self, HEADER_LIMIT, LISTING_LIMIT, LISTING_MARKS, LISTING_PIXELS};
@@ -54,7 +55,7 @@ pub fn run(programs: &Programs, peer: &Path, plan: &Plan) -> Result<ExitCode, St
 fn needed(plan: &Plan) -> Needed {
     let mut reached: Vec<String> =
         REJECTIONS.iter().chain(&[27]).map(|n| format!("refused {n}")).collect();
-    for kind in [2, 3, 9, 10] {
+    for kind in TYPES {
         reached.extend((0..=1).map(|scn| format!("written type {kind} scn {scn}")));
     }
     reached.extend(
@@ -65,7 +66,7 @@ fn needed(plan: &Plan) -> Needed {
     if plan.count >= DEFAULT_COUNT as usize {
         families.extend(BY_CHANCE);
     }
-    Needed { reached, families }
+    Needed { reached, families, ..Needed::default() }
 }
 
 fn check(programs: &Programs, rng: &mut Rng, input: &Input) -> io::Result<Outcome> {

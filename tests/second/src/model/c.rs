@@ -1,9 +1,10 @@
 //! The C functions: what each returns, and what it leaves in the slices that it is lent.
 
 use super::header::{self, Resolution};
-use super::sheet::{self, Sheet};
+use super::sheet::{self, Sheet, Unpacking};
+use super::transcode;
 use super::turn;
-use super::writer::{self, Cutting, Order};
+use super::writer::{self, Coding, Order};
 use super::Rejection;
 
 /// Bytes of the numbers that each function answers with.
@@ -11,6 +12,7 @@ pub const HEADER_ANSWER: usize = 40;
 pub const RASTER_ANSWER: usize = 8;
 pub const COLOR_ANSWER: usize = 12;
 pub const WRITE_ANSWER: usize = 4;
+pub const MOVE_ANSWER: usize = 4;
 
 /// An answer slice that is too short for its numbers; looked at before all else.
 pub const SHORT_ANSWER: Rejection = 29;
@@ -52,6 +54,17 @@ pub fn color(file: &[u8], value: u32, answer: &mut [u8]) -> u32 {
 }
 
 pub fn raster(file: &[u8], pixels: &mut [u8], marks: &mut [u8], answer: &mut [u8]) -> u32 {
+    raster_by(&sheet::RIGHT, file, pixels, marks, answer)
+}
+
+/// The same by a reader that may read packed words in another way.
+pub fn raster_by(
+    by: &Unpacking,
+    file: &[u8],
+    pixels: &mut [u8],
+    marks: &mut [u8],
+    answer: &mut [u8],
+) -> u32 {
     if answer.len() < RASTER_ANSWER {
         return SHORT_ANSWER;
     }
@@ -65,7 +78,7 @@ pub fn raster(file: &[u8], pixels: &mut [u8], marks: &mut [u8], answer: &mut [u8
     if (marks.len() as u64) < h.nol {
         return 24;
     }
-    match sheet::read(file, h.ppl * h.nol, h.nol) {
+    match sheet::read_by(by, file, h.ppl * h.nol, h.nol) {
         Err(number) => unreachable!("refused with {number} after all checks"),
         Ok(found) => leave(&found, pixels, marks, answer),
     }
@@ -123,8 +136,8 @@ pub fn write(given: &Write, out: &mut [u8], answer: &mut [u8]) -> u32 {
     write_by(&writer::RIGHT, given, out, answer)
 }
 
-/// The same by a writer that may cut runs in another way.
-pub fn write_by(cutting: &Cutting, given: &Write, out: &mut [u8], answer: &mut [u8]) -> u32 {
+/// The same by a writer that may make other words.
+pub fn write_by(coding: &Coding, given: &Write, out: &mut [u8], answer: &mut [u8]) -> u32 {
     if answer.len() < WRITE_ANSWER {
         return SHORT_ANSWER;
     }
@@ -132,7 +145,24 @@ pub fn write_by(cutting: &Cutting, given: &Write, out: &mut [u8], answer: &mut [
     let drs = (drs % 65_536) as u16 as i16;
     let room = out.len();
     let order = Order { kind, ppl, nol, slo, scn, drs, table, pixels, room };
-    match writer::write_by(cutting, &order) {
+    leave_file(writer::write_by(coding, &order), out, answer)
+}
+
+pub fn transcode(file: &[u8], out: &mut [u8], answer: &mut [u8]) -> u32 {
+    transcode_by(&transcode::RIGHT, file, out, answer)
+}
+
+/// The same by a mover that may do it in another way.
+pub fn transcode_by(by: &transcode::Manner, file: &[u8], out: &mut [u8], answer: &mut [u8]) -> u32 {
+    if answer.len() < MOVE_ANSWER {
+        return SHORT_ANSWER;
+    }
+    leave_file(transcode::transcode_by(by, file, out.len()), out, answer)
+}
+
+/// Leaves a file that was made, in an output that is long enough, and its length.
+fn leave_file(made: Result<Vec<u8>, Rejection>, out: &mut [u8], answer: &mut [u8]) -> u32 {
+    match made {
         Err(number) => number,
         Ok(file) => {
             out[..file.len()].copy_from_slice(&file);

@@ -1,10 +1,12 @@
-//! The format by its papers: reader of headers, colors and sheets, writer, and turning.
+//! The format by its papers: reader of headers, colors and sheets, writer, turning, and the move
+//! between types 1 and 9.
 //! Plain and slow on purpose; every number is 64 bits wide once it is out of its field.
 
 pub mod c;
 pub mod header;
 pub mod probe;
 pub mod sheet;
+pub mod transcode;
 pub mod turn;
 pub mod writer;
 
@@ -23,5 +25,5 @@ pub fn long(file: &[u8], at: usize) -> u64 {
 
 /// The data types that are read and written.
 pub fn known_type(kind: u64) -> bool {
-    matches!(kind, 2 | 3 | 9 | 10)
+    matches!(kind, 1 | 2 | 3 | 9 | 10)
 }

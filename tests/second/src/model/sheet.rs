@@ -40,7 +40,49 @@ enum Next {
 /// A mark, or the row of a good line.
 type Reading = Result<Vec<u64>, u8>;
 
+/// How packed words are read.
+pub struct Unpacking {
+    /// The words that hold so many pixels.
+    pub words: fn(u64) -> u64,
+    /// The pixels of a word, from the left.
+    pub pixels: fn(u64) -> Vec<u64>,
+    /// Whether a set bit past the last pixel is let pass.
+    pub spare_taken: bool,
+    /// Whether mark 10 comes before mark 6.
+    pub spare_first: bool,
+    /// Whether a line marked 10 is lost where it has no header.
+    pub spare_loses: bool,
+}
+
+/// As the papers say.
+pub const RIGHT: Unpacking = Unpacking {
+    words: |pixels| pixels.div_ceil(16),
+    // The leftmost in the highest bit.
+    pixels: |word| (0..16).rev().map(|bit| word >> bit & 1).collect(),
+    spare_taken: false,
+    spare_first: false,
+    spare_loses: false,
+};
+
+impl Unpacking {
+    /// The row of the words, or mark 10.
+    fn row(&self, words: &[u64], pixels: u64) -> Reading {
+        let mut row: Vec<u64> = words.iter().flat_map(|&word| (self.pixels)(word)).collect();
+        row.resize(row.len().max(pixels as usize), 0);
+        let spare = row.split_off(pixels as usize);
+        match spare.contains(&1) && !self.spare_taken {
+            true => Err(10),
+            false => Ok(row),
+        }
+    }
+}
+
 pub fn read(file: &[u8], pixels: u64, marks: u64) -> Result<Sheet, Rejection> {
+    read_by(&RIGHT, file, pixels, marks)
+}
+
+/// The same by a reader that may read packed words in another way.
+pub fn read_by(by: &Unpacking, file: &[u8], pixels: u64, marks: u64) -> Result<Sheet, Rejection> {
     let header = header::read(file)?;
     if pixels < header.ppl * header.nol {
         return Err(23);
@@ -54,8 +96,8 @@ pub fn read(file: &[u8], pixels: u64, marks: u64) -> Result<Sheet, Rejection> {
     for k in 1..=header.nol {
         let (reading, body, next) = match (lost, header.scn) {
             (true, _) => (Err(9), None, Next::Lost),
-            (false, 0) => bare_line(file, at, header.kind, header.ppl),
-            (false, _) => headed_line(file, at, header.kind, header.ppl, k),
+            (false, 0) => bare_line(by, file, at, header.kind, header.ppl),
+            (false, _) => headed_line(by, file, at, header.kind, header.ppl, k),
         };
         match next {
             Next::At(place) => at = place,
@@ -72,7 +114,7 @@ pub fn read(file: &[u8], pixels: u64, marks: u64) -> Result<Sheet, Rejection> {
 
 /// Line `k` with its header, given nothing but its own bytes, as far as they lie in the file.
 pub fn line_alone(own: &[u8], kind: u64, ppl: usize, k: usize) -> (u8, Vec<u64>) {
-    match headed_line(own, 0, kind, ppl as u64, k as u64).0 {
+    match headed_line(&RIGHT, own, 0, kind, ppl as u64, k as u64).0 {
         Ok(row) => (0, row),
         Err(mark) => (mark, vec![0; ppl]),
     }
@@ -80,6 +122,7 @@ pub fn line_alone(own: &[u8], kind: u64, ppl: usize, k: usize) -> (u8, Vec<u64>)
 
 /// A line with its four words of header before it.
 fn headed_line(
+    by: &Unpacking,
     file: &[u8],
     at: usize,
     kind: u64,
@@ -108,7 +151,8 @@ fn headed_line(
     } else if offset > ppl {
         Err(5)
     } else {
-        whole_body(&file[body.clone()], kind, ppl - offset).map(|rest| from_column(offset, rest))
+        whole_body(by, &file[body.clone()], kind, ppl - offset)
+            .map(|rest| from_column(offset, rest))
     };
     (reading, Some(body), Next::At(next))
 }
@@ -118,11 +162,15 @@ fn from_column(offset: u64, rest: Vec<u64>) -> Vec<u64> {
     [vec![0; offset as usize], rest].concat()
 }
 
-/// A body whose length the line's header gives, for so many pixels: marks 6, 7 and 8.
-fn whole_body(body: &[u8], kind: u64, pixels: u64) -> Reading {
+/// A body whose length the line's header gives, for so many pixels: marks 6, 10, 7 and 8.
+fn whole_body(by: &Unpacking, body: &[u8], kind: u64, pixels: u64) -> Reading {
     let words: Vec<u64> = body.chunks(2).map(|pair| word(pair, 0)).collect();
     let count = words.len() as u64;
+    if kind == 1 && by.spare_first {
+        by.row(&words, pixels)?;
+    }
     let right = match kind {
+        1 => count == (by.words)(pixels),
         2 => count == pixels.div_ceil(2),
         3 => count == pixels,
         9 => count % 2 == 1,
@@ -132,6 +180,7 @@ fn whole_body(body: &[u8], kind: u64, pixels: u64) -> Reading {
         return Err(6);
     }
     let runs: Vec<(u64, u64)> = match kind {
+        1 => return by.row(&words, pixels),
         2 => return Ok(body[..pixels as usize].iter().map(|&byte| u64::from(byte)).collect()),
         3 => return Ok(words),
         9 => words.iter().enumerate().map(|(i, &run)| (i as u64 % 2, run)).collect(),
@@ -150,11 +199,29 @@ fn spread(runs: &[(u64, u64)]) -> Vec<u64> {
     runs.iter().flat_map(|&(value, count)| vec![value; count as usize]).collect()
 }
 
-/// A line that only its own pixels bound: marks 1 and 7, both lost.
-fn bare_line(file: &[u8], at: usize, kind: u64, ppl: u64) -> (Reading, Option<Range<usize>>, Next) {
+/// A line that only its own pixels bound: marks 1 and 7, both lost, and 10, which is not.
+fn bare_line(
+    by: &Unpacking,
+    file: &[u8],
+    at: usize,
+    kind: u64,
+    ppl: u64,
+) -> (Reading, Option<Range<usize>>, Next) {
     let lost = |mark| (Err(mark), None, Next::Lost);
     let width = ppl as usize;
     match kind {
+        1 => {
+            let end = at + 2 * (by.words)(ppl) as usize;
+            let Some(body) = file.get(at..end) else {
+                return lost(1);
+            };
+            let words: Vec<u64> = body.chunks(2).map(|pair| word(pair, 0)).collect();
+            match by.row(&words, ppl) {
+                Err(mark) if by.spare_loses => lost(mark),
+                // Its words are taken all the same.
+                reading => (reading, None, Next::At(end)),
+            }
+        }
         2 => match file.get(at..at + width) {
             Some(body) => {
                 let row = body.iter().map(|&byte| u64::from(byte)).collect();

@@ -20,14 +20,16 @@ const LONGEST_RUN: usize = 32_767;
 /// W counts line number and offset besides the body.
 const LONGEST_BODY_WORDS: usize = 65_533;
 
-/// The words of a row in types 9 and 10.
-pub struct Cutting {
+/// The words of a row in types 1, 9 and 10.
+pub struct Coding {
+    pub packed: fn(&[u16]) -> Vec<u16>,
     pub levels: fn(&[u16]) -> Vec<u16>,
     pub pairs: fn(&[u16]) -> Vec<u16>,
 }
 
 /// As the papers say.
-pub const RIGHT: Cutting = Cutting { levels: |row| levels(row, cut), pairs: |row| pairs(row, cut) };
+pub const RIGHT: Coding =
+    Coding { packed, levels: |row| levels(row, cut), pairs: |row| pairs(row, cut) };
 
 /// The pieces of a run.
 pub type Pieces = fn(usize) -> Vec<u16>;
@@ -37,8 +39,8 @@ pub fn write(order: &Order) -> Result<Vec<u8>, Rejection> {
     write_by(&RIGHT, order)
 }
 
-/// The same by a writer that may cut runs in another way.
-pub fn write_by(cutting: &Cutting, order: &Order) -> Result<Vec<u8>, Rejection> {
+/// The same by a writer that may make other words.
+pub fn write_by(coding: &Coding, order: &Order) -> Result<Vec<u8>, Rejection> {
     check_fields(order)?;
     let (ppl, nol) = (order.ppl as usize, order.nol as usize);
     if (order.pixels.len() as u64) < u64::from(order.ppl) * u64::from(order.nol) {
@@ -47,14 +49,15 @@ pub fn write_by(cutting: &Cutting, order: &Order) -> Result<Vec<u8>, Rejection> 
     let pixels = &order.pixels[..ppl * nol];
     let most = match order.kind {
         2 => 255,
-        9 => 1,
+        1 | 9 => 1,
         _ => u16::MAX,
     };
     if pixels.iter().any(|&pixel| pixel > most) {
         return Err(26);
     }
-    let bodies: Vec<Vec<u8>> = pixels.chunks(ppl).map(|row| body(cutting, order, row)).collect();
-    if order.scn == 1 && bodies.iter().any(|body| body.len() / 2 > LONGEST_BODY_WORDS) {
+    let made = |row| body(coding, order.kind, order.scn, row);
+    let bodies: Vec<Vec<u8>> = pixels.chunks(ppl).map(made).collect();
+    if order.scn == 1 && bodies.iter().any(|body| is_too_long(body)) {
         return Err(27);
     }
     let mut file = header(order);
@@ -115,23 +118,37 @@ fn header(order: &Order) -> Vec<u8> {
     file
 }
 
-fn body(cutting: &Cutting, order: &Order, row: &[u16]) -> Vec<u8> {
-    match order.kind {
+/// Whether a line's header cannot say how long its body is.
+pub fn is_too_long(body: &[u8]) -> bool {
+    body.len() / 2 > LONGEST_BODY_WORDS
+}
+
+/// The body of a line.
+pub fn body(coding: &Coding, kind: u32, scn: u32, row: &[u16]) -> Vec<u8> {
+    match kind {
+        1 => bytes(&(coding.packed)(row)),
         2 => {
             let mut bytes: Vec<u8> = row.iter().map(|&pixel| pixel as u8).collect();
-            if order.scn == 1 && bytes.len() % 2 == 1 {
+            if scn == 1 && bytes.len() % 2 == 1 {
                 bytes.push(0);
             }
             bytes
         }
         3 => bytes(row),
-        9 => bytes(&(cutting.levels)(row)),
-        _ => bytes(&(cutting.pairs)(row)),
+        9 => bytes(&(coding.levels)(row)),
+        _ => bytes(&(coding.pairs)(row)),
     }
 }
 
 fn bytes(words: &[u16]) -> Vec<u8> {
     words.iter().flat_map(|word| word.to_le_bytes()).collect()
+}
+
+/// Type 1: sixteen pixels to a word, the leftmost in the highest bit. Spare bits stay 0.
+pub fn packed(row: &[u16]) -> Vec<u16> {
+    let word =
+        |part: &[u16]| part.iter().zip((0..16).rev()).map(|(&pixel, bit)| pixel << bit).sum();
+    row.chunks(16).map(word).collect()
 }
 
 /// The longest runs there are, as value and length.
