@@ -17,8 +17,8 @@
 #include "sheets.h"
 #include "sides.h"
 
-const struct side OURS = {ingr_header, ingr_raster, ingr_color, ingr_turn, ingr_turn_back, ingr_write};
-const struct side PLAIN = {plain_header, plain_raster, plain_color, plain_turn, plain_turn_back, plain_write};
+const struct side OURS = {ingr_header, ingr_raster, ingr_color, ingr_turn, ingr_turn_back, ingr_write, ingr_move};
+const struct side PLAIN = {plain_header, plain_raster, plain_color, plain_turn, plain_turn_back, plain_write, plain_move};
 
 /* Reading into 16-bit pixels, where a library has it: then reading into bytes is timed against it. */
 uint32_t ingr_raster16(const uint8_t *file, size_t file_size, uint16_t *pixels, size_t pixel_count,
@@ -42,7 +42,7 @@ static void *memory(size_t size)
 /* What a job is given, and what it leaves. */
 
 static struct {
-    uint8_t *file; /* to be read */
+    uint8_t *file; /* to be read or moved */
     size_t file_size;
     uint16_t *picture; /* to be written or turned */
     uint32_t type, ppl, nol, slo, scn;
@@ -100,6 +100,11 @@ static void turn_back(const struct side *side, struct left *to)
                                  INGR_PIXELS(given.ppl, given.nol), (uint16_t *)(void *)to->big, to->big_size / 2);
 }
 
+static void move(const struct side *side, struct left *to)
+{
+    to->result = side->move(given.file, given.file_size, to->big, to->big_size, to->answer, sizeof to->answer);
+}
+
 /* Small calls are made a thousand times. */
 enum { CALLS = 1000 };
 
@@ -128,6 +133,16 @@ static void copy_file(struct left *to)
     const size_t bytes = picture_bytes(), copied = given.file_size < bytes ? given.file_size : bytes;
     memcpy(to->big, given.file, copied);
     memset(to->big + copied, 0, bytes - copied);
+}
+
+/* As many bytes loaded as there are in the file, and as many stored as there are in the moved one, whose
+ * length a move has left. */
+static void load_and_store(struct left *to)
+{
+    uint8_t all = 0;
+    for (size_t i = 0; i < given.file_size; i++)
+        all |= given.file[i];
+    memset(to->big, all, INGR_NUMBER(to->answer, INGR_MOVE_LENGTH));
 }
 
 static void copy_pixels(struct left *to)
@@ -271,7 +286,7 @@ static void row(const struct job *job, const char *name, uint32_t expected)
 
 static const char *type_name(uint32_t type)
 {
-    return type == 2 ? "2, bytes" : type == 3 ? "3, words" : type == 9 ? "9, runs" : "10, pairs";
+    return type == 1 ? "1, packed" : type == 2 ? "2, bytes" : type == 3 ? "3, words" : type == 9 ? "9, runs" : "10, pairs";
 }
 
 static const char *runs_name(int runs)
@@ -322,7 +337,7 @@ static void reading(uint32_t type, uint32_t ppl, uint32_t nol, uint32_t scn, int
     lend(picture_bytes());
     const struct job job = {read_raster, type <= 3 ? copy_file : store_pixels, NULL};
     row(&job, name, damage == NONE ? 0 : 1);
-    if (runs == SHORT_RUNS) {
+    if (damage == NONE && (runs == SHORT_RUNS || (type == 1 && nol <= 2000))) {
         const struct job against = {read_raster, NULL, read_tuned};
         char longer[200];
         snprintf(longer, sizeof longer, "%s: against C with eight pixels at a time", name);
@@ -365,6 +380,20 @@ static void writing(uint32_t type, uint32_t scn, int runs)
     row(&job, name, 0);
 }
 
+static void moving(uint32_t type, uint32_t scn, int runs)
+{
+    char name[160];
+    snprintf(name, sizeof name, "move type %u to %u%s%s", type, 10 - type, runs_name(runs), scn == 1 ? ", headers" : "");
+    if (!wanted(name))
+        return;
+    sides_of(type, 20000, 2000, scn);
+    paint(given.picture, type, given.ppl, given.nol, runs);
+    make_file(NONE);
+    lend(INGR_MOVE_ROOM(given.file_size, given.ppl, given.nol));
+    const struct job job = {move, load_and_store, NULL};
+    row(&job, name, 0);
+}
+
 static void turning(uint32_t slo, int back)
 {
     char name[160];
@@ -399,6 +428,8 @@ static void all_rows(void)
 {
     static const int RUNS[] = {2, 61, SHORT_RUNS};
     for (uint32_t scn = 0; scn <= 1; scn++) {
+        reading(1, 20000, 2000, scn, NOISE, NONE);
+        reading(1, 20000, 2000, scn, 61, NONE);
         reading(2, 20000, 2000, scn, NOISE, NONE);
         reading(3, 20000, 2000, scn, NOISE, NONE);
         for (uint32_t type = 9; type <= 10; type++)
@@ -413,16 +444,24 @@ static void all_rows(void)
     for (uint32_t scn = 0; scn <= 1; scn++) {
         reading(9, 16, 65535, scn, 2, NONE);
         reading(2, 16, 65535, scn, NOISE, NONE);
+        reading(1, 16, 65535, scn, NOISE, NONE);
     }
+    reading_halves(1, NOISE);
     reading_halves(2, NOISE);
     reading_halves(9, 61);
     for (uint32_t scn = 0; scn <= 1; scn++) {
+        writing(1, scn, NOISE);
+        writing(1, scn, 61);
         writing(2, scn, NOISE);
         writing(3, scn, NOISE);
         for (uint32_t type = 9; type <= 10; type++)
             for (int i = 0; i < 3; i++)
                 writing(type, scn, RUNS[i]);
     }
+    for (uint32_t type = 1; type <= 9; type += 8)
+        for (uint32_t scn = 0; scn <= 1; scn++)
+            for (int i = 0; i < 3; i++)
+                moving(type, scn, RUNS[i]);
     for (uint32_t slo = 0; slo < 8; slo++)
         turning(slo, 0);
     for (uint32_t slo = 0; slo < 8; slo++)

@@ -21,7 +21,7 @@ static uint8_t file[BYTES];
 static size_t file_size;
 static uint16_t picture[PIXELS];
 static unsigned long compared, unequal;
-static unsigned long results[64], marks[64]; /* how often each was met */
+static unsigned long results[64], marks[64], moved; /* how often each was met */
 
 /* Columns in which lines start, and how often each was met: by good lines, and the last two, which are
  * past the row, by lines marked 5. */
@@ -120,6 +120,24 @@ static void write_both(uint32_t type, uint32_t ppl, uint32_t nol, uint32_t scn)
     theirs.result = PLAIN.write(some_type, some_ppl, some_nol, slo, some_scn, drs, table, table_size, picture,
                                 pixels, theirs.big, room, theirs.answer, answer_size);
     compare("writing");
+}
+
+/* Moves the file, as it is. */
+static void move_both(void)
+{
+    const size_t answer_size = length(4, sizeof mine.answer);
+    clear();
+    size_t room = reach;
+    if (chance(2)) { /* room for exactly the file, or about as much */
+        theirs.result = PLAIN.move(file, file_size, theirs.big, room, theirs.answer, sizeof theirs.answer);
+        if (theirs.result == 0)
+            room = length(theirs.answer[0] + 256u * theirs.answer[1] + 65536u * theirs.answer[2], reach);
+        clear();
+    }
+    mine.result = OURS.move(file, file_size, mine.big, room, mine.answer, answer_size);
+    theirs.result = PLAIN.move(file, file_size, theirs.big, room, theirs.answer, answer_size);
+    moved += theirs.result == 0;
+    compare("moving");
 }
 
 /* Makes a file of the picture that is right; without scanline headers where bodies are too long for
@@ -236,12 +254,16 @@ static void count_missing(void)
             printf("bench: no line that starts at %s was marked %u\n", NAMES[i], mark_at(i));
             unequal++;
         }
-    for (unsigned number = 0; number <= 31; number++)
-        if (results[number] == 0 && (number <= 1 || number >= 11) && number != 30) {
+    for (unsigned number = 0; number <= 42; number++)
+        if (results[number] == 0 && (number <= 1 || (number >= 11 && number <= 31) || number >= 41)) {
             printf("bench: no call gave %u\n", number);
             unequal++;
         }
-    for (unsigned mark = 0; mark <= 9; mark++)
+    if (moved == 0) {
+        printf("bench: nothing was moved\n");
+        unequal++;
+    }
+    for (unsigned mark = 0; mark <= 10; mark++)
         if (marks[mark] == 0) {
             printf("bench: no line was marked %u\n", mark);
             unequal++;
@@ -250,13 +272,15 @@ static void count_missing(void)
 
 unsigned long compare_by_chance(unsigned long count, unsigned long *how_many)
 {
-    static const uint32_t TYPES[] = {2, 3, 9, 10};
+    static const uint32_t TYPES[] = {1, 2, 3, 9, 10};
     for (unsigned long i = 0; i < count; i++) {
-        const uint32_t type = TYPES[chance(4)], scn = chance(2);
+        const uint32_t type = TYPES[chance(5)], scn = chance(2);
         const int wide = chance(50) == 0; /* where runs are cut, and bodies too long */
         const uint32_t ppl = wide ? (chance(2) ? 65532 : 32765) + chance(4) : 1 + chance(chance(2) ? 9 : 200);
         const uint32_t nol = wide ? 1 + chance(2) : 1 + chance(12);
-        paint(picture, type, ppl, nol, chance(3) ? (int)(1 + chance(wide ? 2 : 6)) : (int)chance(2) - 1);
+        /* Of type 1 now and then as of type 9, by turns: moved, some of those bodies are too long. */
+        const uint32_t painted = type == 1 && chance(2) ? 9 : type;
+        paint(picture, painted, ppl, nol, chance(3) ? (int)(1 + chance(wide ? 2 : 6)) : (int)chance(2) - 1);
         reach = 16 * ((size_t)ppl * nol + SPARE) + 2048; /* more than any of them needs */
         if (chance(16) == 0) {
             environ_v(file);
@@ -269,7 +293,9 @@ unsigned long compare_by_chance(unsigned long count, unsigned long *how_many)
                 start_partway(type, ppl, nol);
         }
         write_both(type, ppl, nol, scn);
+        move_both();
         damage();
+        move_both();
         read_both((size_t)ppl * nol, nol);
         color_both();
         turn_both(ppl, nol);

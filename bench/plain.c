@@ -43,7 +43,7 @@ struct header {
 
 static int known(uint32_t type)
 {
-    return type == 2 || type == 3 || type == 9 || type == 10;
+    return type == 1 || type == 2 || type == 3 || type == 9 || type == 10;
 }
 
 /* Whether two Environ-V entries share a slot; a bit for each slot there can be. */
@@ -236,6 +236,49 @@ static void paint_bytes(uint8_t *restrict to, const uint8_t *restrict body, size
         put16(to + 2 * i, body[i]);
 }
 
+/* Type 1: sixteen pixels to a word, the leftmost in the highest bit. */
+
+static inline size_t packed_words(size_t pixels)
+{
+    return (pixels + 15) / 16;
+}
+
+/* Whether a bit of the last word that is no pixel's is set. */
+static inline int spare_bit(const uint8_t *body, size_t pixels)
+{
+    return pixels % 16 != 0 && (get16(body + 2 * (pixels / 16)) & 0xFFFFu >> pixels % 16) != 0;
+}
+
+#ifdef EIGHT_AT_ONCE
+/* The eight pixels of every byte. */
+#define PIXELS_1(b) {(b) >> 7 & 1, (b) >> 6 & 1, (b) >> 5 & 1, (b) >> 4 & 1, (b) >> 3 & 1, (b) >> 2 & 1, (b) >> 1 & 1, (b) & 1}
+#define PIXELS_4(b) PIXELS_1(b), PIXELS_1((b) + 1), PIXELS_1((b) + 2), PIXELS_1((b) + 3)
+#define PIXELS_16(b) PIXELS_4(b), PIXELS_4((b) + 4), PIXELS_4((b) + 8), PIXELS_4((b) + 12)
+#define PIXELS_64(b) PIXELS_16(b), PIXELS_16((b) + 16), PIXELS_16((b) + 32), PIXELS_16((b) + 48)
+static const uint16_t PIXELS_OF[256][8] = {PIXELS_64(0), PIXELS_64(64), PIXELS_64(128), PIXELS_64(192)};
+#endif
+
+static inline void paint_word(uint8_t *restrict to, const uint8_t *restrict word)
+{
+#ifdef EIGHT_AT_ONCE
+    memcpy(to, PIXELS_OF[word[1]], 16);
+    memcpy(to + 16, PIXELS_OF[word[0]], 16);
+#else
+    const uint32_t bits = get16(word);
+    for (int i = 0; i < 16; i++)
+        put16(to + 2 * i, bits >> (15 - i) & 1);
+#endif
+}
+
+static void paint_bits(uint8_t *restrict to, const uint8_t *restrict body, size_t pixels)
+{
+    const size_t full = pixels / 16;
+    for (size_t i = 0; i < full; i++)
+        paint_word(to + 32 * i, body + 2 * i);
+    for (size_t i = 16 * full; i < pixels; i++)
+        put16(to + 2 * i, get16(body + 2 * full) >> (15 - i % 16) & 1);
+}
+
 /* Reads a body whose words are counted, for so many pixels. Inlined, so that lines that start at 0,
  * which nearly all do, cost no more than if there were no others. */
 static inline __attribute__((always_inline)) uint32_t read_body(uint32_t type, const uint8_t *body,
@@ -244,6 +287,13 @@ static inline __attribute__((always_inline)) uint32_t read_body(uint32_t type, c
 {
     struct line line = {body, words, to, pixels, 0, 0};
     switch (type) {
+    case 1:
+        if (words != packed_words(pixels))
+            return 6;
+        if (spare_bit(body, pixels))
+            return 10;
+        paint_bits(to, body, pixels);
+        return 0;
     case 2:
         if (words != (pixels + 1) / 2)
             return 6;
@@ -298,6 +348,15 @@ static uint32_t read_open(const uint8_t *file, size_t size, const struct header 
     uint32_t mark = 0;
     size_t used = 0;
     switch (h->type) {
+    case 1:
+        used = 2 * packed_words(line.pixels);
+        if (used > left)
+            mark = 1;
+        else if (spare_bit(line.body, line.pixels))
+            mark = 10;
+        else
+            paint_bits(row, line.body, line.pixels);
+        break;
     case 2:
     case 3:
         used = h->type == 2 ? line.pixels : 2 * line.pixels;
@@ -316,8 +375,8 @@ static uint32_t read_open(const uint8_t *file, size_t size, const struct header 
         mark = paint_pairs(&line);
         used = 2 * line.used;
     }
-    *lost = mark != 0;
-    if (mark == 0)
+    *lost = mark != 0 && mark != 10; /* the words of a line with a spare bit are known */
+    if (!*lost)
         *start += used;
     return mark;
 }
@@ -524,6 +583,23 @@ static uint8_t *put_pairs(uint8_t *out, const uint16_t *row, size_t ppl)
     return out;
 }
 
+static void put_bits(uint8_t *restrict out, const uint16_t *restrict row, size_t ppl)
+{
+    const size_t full = ppl / 16;
+    for (size_t i = 0; i < full; i++) {
+        uint32_t word = 0;
+        for (int j = 0; j < 16; j++)
+            word |= (uint32_t)row[16 * i + j] << (15 - j);
+        put16(out + 2 * i, word);
+    }
+    if (ppl % 16 != 0) {
+        uint32_t word = 0;
+        for (size_t i = 16 * full; i < ppl; i++)
+            word |= (uint32_t)row[i] << (15 - i % 16);
+        put16(out + 2 * full, word);
+    }
+}
+
 static void put_bytes(uint8_t *restrict out, const uint16_t *restrict row, size_t ppl)
 {
     for (size_t i = 0; i < ppl; i++)
@@ -533,6 +609,9 @@ static void put_bytes(uint8_t *restrict out, const uint16_t *restrict row, size_
 static uint8_t *put_body(uint32_t type, uint32_t scn, uint8_t *out, const uint16_t *row, size_t ppl)
 {
     switch (type) {
+    case 1:
+        put_bits(out, row, ppl);
+        return out + 2 * packed_words(ppl);
     case 2:
         put_bytes(out, row, ppl);
         if (scn == 1 && ppl % 2 == 1)
@@ -560,9 +639,9 @@ static int any_above(const uint16_t *pixels, size_t count, uint16_t most)
 static uint32_t measure(uint32_t type, uint32_t ppl, uint32_t nol, uint32_t scn,
                         const uint16_t *pixels, uint64_t *bytes)
 {
-    size_t longest = type == 2 ? (ppl + 1) / 2 : ppl;
-    *bytes = (uint64_t)nol * (type == 3 ? 2 * ppl : scn == 1 ? ppl + ppl % 2 : ppl);
-    if (type == 2 && any_above(pixels, (size_t)ppl * nol, 255))
+    size_t longest = type == 1 ? packed_words(ppl) : type == 2 ? (ppl + 1) / 2 : ppl;
+    *bytes = (uint64_t)nol * (type == 2 ? scn == 1 ? ppl + ppl % 2 : ppl : 2 * longest);
+    if (type <= 2 && any_above(pixels, (size_t)ppl * nol, type == 1 ? 1 : 255))
         return 26;
     if (type >= 9) {
         longest = 0;
@@ -648,6 +727,67 @@ uint32_t plain_write(uint32_t type, uint32_t ppl, uint32_t nol, uint32_t slo, ui
             put16(head + 4, k + 1);
             put16(head + 6, 0);
         }
+    }
+    put32(answer, (uint32_t)bytes);
+    return 0;
+}
+
+/* Moving: one pass that reads every line and measures its new body, and one that reads them again and
+ * writes. */
+
+uint32_t plain_move(const uint8_t *file, size_t file_size, uint8_t *out, size_t out_size,
+                    uint8_t *answer, size_t answer_size)
+{
+    struct header h;
+    uint16_t row[MOST_SIDE];
+    if (answer_size < 4)
+        return 29;
+    const uint32_t number = read_header(file, file_size, &h);
+    if (number != 0)
+        return number;
+    if (h.type != 1 && h.type != 9)
+        return 30;
+    const uint32_t type = 10 - h.type;
+    const size_t blocks = (size_t)h.blocks * BLOCK;
+    uint64_t bytes = blocks + (uint64_t)h.nol * 8 * h.scn;
+    size_t longest = 0, start = blocks;
+    int lost, indented = 0;
+    for (uint32_t k = 0; k < h.nol; k++) {
+        const size_t head = start;
+        const uint32_t mark = h.scn == 1 ? read_headed(file, file_size, &h, k, (uint8_t *)row, &start, &lost)
+                                         : read_open(file, file_size, &h, (uint8_t *)row, &start, &lost);
+        if (mark != 0)
+            return 41;
+        indented |= h.scn == 1 && get16(file + head + 6) != 0;
+        const size_t words = type == 1 ? packed_words(h.ppl) : coded_words(type, row, h.ppl);
+        if (words > longest)
+            longest = words;
+        bytes += 2 * words;
+    }
+    if (indented)
+        return 42;
+    if (h.scn == 1 && longest > MOST_WORDS)
+        return 27;
+    if (bytes > MOST_BYTES)
+        return 10;
+    if (out_size < bytes)
+        return 28;
+    memcpy(out, file, blocks);
+    put16(out + 4, type);
+    uint8_t *at = out + blocks;
+    start = blocks;
+    for (uint32_t k = 0; k < h.nol; k++) {
+        uint8_t *head = at;
+        if (h.scn == 1) {
+            memcpy(head, file + start, 8);
+            at += 8;
+            read_headed(file, file_size, &h, k, (uint8_t *)row, &start, &lost);
+        } else {
+            read_open(file, file_size, &h, (uint8_t *)row, &start, &lost);
+        }
+        at = put_body(type, h.scn, at, row, h.ppl);
+        if (h.scn == 1)
+            put16(head + 2, (uint32_t)(at - head - 4) / 2);
     }
     put32(answer, (uint32_t)bytes);
     return 0;

@@ -8,7 +8,7 @@
 uint32_t plain_header(const uint8_t *file, size_t file_size, uint8_t *answer, size_t answer_size);
 uint32_t plain_raster(const uint8_t *file, size_t file_size, uint8_t *pixels, size_t pixels_size,
                       uint8_t *marks, size_t marks_size, uint8_t *answer, size_t answer_size);
-/* Built with EIGHT_AT_ONCE: short runs are stored eight pixels at a time. */
+/* Built with EIGHT_AT_ONCE: short runs, and the pixels of packed bytes, are stored eight at a time. */
 uint32_t tuned_raster(const uint8_t *file, size_t file_size, uint8_t *pixels, size_t pixels_size,
                       uint8_t *marks, size_t marks_size, uint8_t *answer, size_t answer_size);
 uint32_t plain_color(const uint8_t *file, size_t file_size, uint32_t value,
@@ -21,5 +21,7 @@ uint32_t plain_write(uint32_t type, uint32_t ppl, uint32_t nol, uint32_t slo, ui
                      uint32_t drs, const uint8_t *table, size_t table_size,
                      const uint16_t *pixels, size_t pixel_count, uint8_t *out, size_t out_size,
                      uint8_t *answer, size_t answer_size);
+uint32_t plain_move(const uint8_t *file, size_t file_size, uint8_t *out, size_t out_size,
+                    uint8_t *answer, size_t answer_size);
 
 #endif

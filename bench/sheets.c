@@ -27,6 +27,7 @@ static uint16_t other(uint32_t type, uint16_t before)
     switch (type) {
     case 2:
         return (uint16_t)((before + 1 + chance(255)) % 256);
+    case 1:
     case 9:
         return before ^ 1;
     default:
@@ -48,7 +49,7 @@ static void paint_row(uint16_t *row, uint32_t type, size_t ppl, int runs)
             end = at + 1;
         for (; at < end && at < ppl; at++)
             row[at] = value;
-        value = other(type, value);
+        value = runs == NOISE && type == 1 ? (uint16_t)chance(2) : other(type, value);
     }
 }
 

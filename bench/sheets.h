@@ -12,7 +12,8 @@ uint32_t chance(uint32_t limit);
 uint32_t word(const uint8_t *at);
 void put_word(uint8_t *at, uint32_t value);
 
-/* How many runs a line has: a number of them, or one of these. */
+/* How many runs a line has: a number of them, or one of these. NOISE has another pixel in every place;
+ * in type 1, where there are two to choose from, any. */
 enum runs { NOISE = -1, SHORT_RUNS = 0 /* of 1 to 4 pixels */ };
 
 /* Paints lines of such runs, of pixels that the data type has. */

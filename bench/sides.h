@@ -13,6 +13,7 @@ struct side {
     uint32_t (*turn_back)(uint32_t, uint32_t, uint32_t, const uint16_t *, size_t, uint16_t *, size_t);
     uint32_t (*write)(uint32_t, uint32_t, uint32_t, uint32_t, uint32_t, uint32_t, const uint8_t *, size_t,
                       const uint16_t *, size_t, uint8_t *, size_t, uint8_t *, size_t);
+    uint32_t (*move)(const uint8_t *, size_t, uint8_t *, size_t, uint8_t *, size_t);
 };
 
 extern const struct side OURS, PLAIN;
