@@ -35,8 +35,8 @@ store-written-requires c κs =
     let x = w .write-raster .ensures .0 in (
       omega (arith, e .if1 .left),
       record {
-        number-from = number-from (given s) room (w .write-raster .result) x;
-        size-most = size-most (given s) room (w .write-raster .result) x;
+        number-from = number-from _ room (w .write-raster .result) x;
+        size-most = size-most _ room (w .write-raster .result) x;
       },
     )
 
