@@ -1,4 +1,5 @@
 pub mod Packing
+pub mod Statement
 pub mod Lanes
 pub mod Weights
 pub mod laws

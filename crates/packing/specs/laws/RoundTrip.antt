@@ -29,7 +29,7 @@ module _ (row : List ℕ) (below : AllBelow 2 row) where
   abbrev rowBits : List ℕ
   rowBits = wordBits (packedWords (packedCount (length row)) row)
 
-  bits-of-row : rowBits ≡ row ++ zeros (16 * packedCount (length row) - length row)
+  pub bits-of-row : rowBits ≡ row ++ zeros (16 * packedCount (length row) - length row)
   bits-of-row =
       let n = packedCount (length row) in
       let m = 16 * n - length row in
