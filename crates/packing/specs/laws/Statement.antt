@@ -32,7 +32,7 @@ zero-bit k =
 -- in the first word, and behind it
 pub bits-in-place : BitsInPlace
 unfolding wordBits
-bits-in-place [] i = sym (zero-bit (15 - i % 16))
+bits-in-place [] i = sym (zero-bit _)
 bits-in-place (w ∷ ws) i = go (ltb i 16) refl (bits-in-place ws (i - 16))
   where
     go : (b : Bool) → ltb i 16 ≡ b → getD (wordBits ws) (i - 16) 0 ≡ bitAt ws (i - 16) → getD (bits 16 w ++ wordBits ws) i 0 ≡ bitAt (w ∷ ws) i
