@@ -10,7 +10,8 @@ use Rattle.codec.specs.Table.{bodyBytes}
 use Rattle.header.specs.Reading.{HeaderNumbers, headerReading}
 use Rattle.layout.specs.Chain.{Raster, sheetOf, from, stepAt, start, bodyAt, readingAt, endOf}
 use Rattle.layout.specs.Reading.{rasterReading, pixelsAfter, marksAfter}
-use Rattle.transcode.specs.File.{otherType, transcoded}
+use Rattle.transcode_parts.specs.Headers.{otherType}
+use Rattle.transcode.specs.File.{transcoded}
 use Rattle.transcode.specs.Transcoding.{transcodeRejection}
 
 -- the bytes of a file

@@ -1,25 +1,21 @@
 -- Paper 02, P5: "move a sheet from type 1 to type 9 and back". The file that a sheet becomes.
-use Prim.Native.Nat.{ℕ, zero, suc, _+_}
+use Prim.Native.Nat.{ℕ, zero, suc}
 use mathlib.Core.Bool.{cond}
 use mathlib.Core.List.{List, [], _++_}
 use lib.ListN.{take}
-use lib.Seq.{sets}
 use lib.Dec.{eqb}
-use Rattle.units.specs.Words.{twoBytes, wordCount}
+use Rattle.units.specs.Words.{wordCount}
 use Rattle.codec.specs.Table.{bodyBytes}
 use Rattle.layout.specs.Chain.{Raster, sheetOf, headAt, readingAt}
-
--- from 1 to 9, and from 9 to 1
-abbrev pub otherType : ℕ → ℕ
-otherType t = cond (eqb t 1) 9 1
+use Rattle.transcode_parts.specs.Headers.{otherType, withType, fitted}
 
 -- "Header blocks are carried over except for DTC"
 abbrev pub carriedHeader : List ℕ → List ℕ
-carriedHeader f = sets (take (sheetOf f .dataStart) f) 4 (twoBytes (otherType (sheetOf f .dataType)))
+carriedHeader f = withType (take (sheetOf f .dataStart) f) (otherType (sheetOf f .dataType))
 
--- "line headers are kept, with W fitted": identifier, line number and pixel offset stay
+-- "line headers are kept, with W fitted" to the body
 abbrev pub fittedHeader : List ℕ → List ℕ → List ℕ
-fittedHeader hd body = sets hd 2 (twoBytes (wordCount body .0 + 2))
+fittedHeader hd body = fitted hd (wordCount body .0)
 
 -- "bodies are as our writer makes them", of the row that a scanline reads as. t is the new data type and hd the scanline's header.
 unfoldable pub newLine : ℕ → ℕ → List ℕ → List ℕ → List ℕ

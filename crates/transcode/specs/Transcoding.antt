@@ -2,17 +2,19 @@
 -- not 0, then 27, 10, 28", and what it answers and leaves.
 use Prim.Native.Nat.{ℕ, zero, suc}
 use mathlib.Core.Bool.{Bool, false, not, _&&_, _||_}
-use mathlib.Core.List.{List, [], _∷_, _++_}
+use mathlib.Core.List.{List, _++_}
 use lib.ListN.{length}
 use lib.Dec.{eqb, ltb}
-use Rattle.units.specs.Rules.{Rule, rule, first}
+use Rattle.units.specs.Rules.{Rule, first}
 use Rattle.units.specs.Words.{wordCount}
 use Rattle.codec.specs.Table.{bodyBytes}
 use Rattle.header.specs.Rejections.{rulesTo22}
 use Rattle.layout.specs.Scanline.{pixelOffset}
 use Rattle.layout.specs.Chain.{Raster, sheetOf, headAt, readingAt}
-use Rattle.encode_answer.specs.Sizes.{mostWords, sizeRules, WriteNumbers, answerBy, outBy}
-use Rattle.transcode.specs.File.{otherType, transcoded}
+use Rattle.encode_answer.specs.Sizes.{mostWords, WriteNumbers, answerBy, outBy}
+use Rattle.transcode_parts.specs.Headers.{otherType}
+use Rattle.transcode_parts.specs.Rules.{typeRules, foundRules}
+use Rattle.transcode.specs.File.{transcoded}
 
 -- one of the first k scanlines has what is looked for
 unfoldable pub anyLine : (ℕ → Bool) → ℕ → Bool
@@ -31,16 +33,10 @@ isPartway r k = eqb (r .scn) 1 && not (eqb (pixelOffset (headAt r k)) 0)
 abbrev pub isLong : Raster → ℕ → Bool
 isLong r k = ltb (mostWords .0) (wordCount (bodyBytes (otherType (r .dataType)) (r .scn) (readingAt r k .row)) .0)
 
--- a data type other than 1 and 9
-abbrev pub typeRules : ℕ → List Rule
-typeRules t = rule 30 (not (eqb t 1 || eqb t 9)) ∷ []
-
 -- each over the whole sheet, for a new file of `size` bytes and an output of `room`
 abbrev pub lineRules : Raster → ℕ → ℕ → List Rule
 lineRules r size room =
-    rule 41 (anyLine (isRefused r) (r .nol)) ∷
-    rule 42 (anyLine (isPartway r) (r .nol)) ∷
-    sizeRules (r .scn) (anyLine (isLong r) (r .nol)) size room
+    foundRules (r .scn) (anyLine (isRefused r) (r .nol)) (anyLine (isPartway r) (r .nol)) (anyLine (isLong r) (r .nol)) size room
 
 unfoldable pub transcodeRejection : List ℕ → ℕ → ℕ
 transcodeRejection f room =

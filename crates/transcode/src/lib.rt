@@ -7,22 +7,19 @@ ghost use mathlib.Core.Path.{_≡_};
 ghost use mathlib.Core.Bool.{_||_};
 ghost use mathlib.Core.List.{_++_};
 ghost use lib.ListN.{length, drop};
-ghost use lib.Seq.{sets};
-ghost use Rattle.units.specs.Over.{over};
 ghost use Rattle.units.specs.Rules.{first};
-ghost use Rattle.units.specs.Words.{twoBytes};
 ghost use Rattle.limits.specs.Limits.{mostPixels};
 ghost use Rattle.header.specs.Rejections.{rulesTo22};
 ghost use Rattle.layout.specs.Scanline.{headOf};
 ghost use Rattle.layout.specs.Chain.{sheetOf, rasterOf};
 ghost use Rattle.encode_answer.specs.Sizes.{answerBy};
 ghost use Rattle.encode_answer.specs.Answer.{writeNumbers};
-ghost use Rattle.transcode.specs.File.{otherType, newLine, newLines};
-ghost use Rattle.transcode.specs.Transcoding.{typeRules, lineRules, transcoding, outTranscoded};
+ghost use Rattle.transcode_parts.specs.Rules.{typeRules};
+ghost use Rattle.transcode.specs.File.{newLine, newLines};
+ghost use Rattle.transcode.specs.Transcoding.{lineRules, transcoding, outTranscoded};
 ghost use Rattle.transcode.specs.laws.Answer.{oldRow, newSize, Movable, Ready, IsSurvey, Surveyed, LineFits, IsWritten, LinesFit};
 use decode_scanline::read_scanline;
 use encode_answer::WriteAnswer;
-use encode_answer::answer_by_size;
 use encode_answer::or_long;
 use encode_answer::rejected;
 use encode_body::body_size;
@@ -32,10 +29,13 @@ use layout::RasterLayout;
 use layout::sheet_layout;
 use scan_scanline::body_start;
 use scan_scanline::first_column;
-use slices::copy;
+use transcode_parts::answer_by_lines;
+use transcode_parts::carry_header;
+use transcode_parts::fit_header;
+use transcode_parts::other_type;
+use transcode_parts::unmoved_type;
 use units::Bytes;
 use units::bytes_to_words;
-use units::put_word;
 
 // What the scanlines are, of which the first that is refused ends the survey: whether one starts partway, whether a new body is too long
 // for a scanline header to count, and the bytes of all new scanlines.
@@ -109,20 +109,7 @@ fn file_rejection(file: &[u8]) -> u16
         return number;
     }
     let sheet = sheet_layout(file);
-    if sheet.dtc == 1 {
-        return 0;
-    }
-    if sheet.dtc == 9 {
-        return 0;
-    }
-    30
-}
-
-// From 1 to 9, and from 9 to 1.
-fn other_type(dtc: u16) -> u16
-    ensures { λ r. ⌜ r ≡ otherType dtc ⌝ }
-{
-    if dtc == 1 { 9 } else { 1 }
+    unmoved_type(sheet.dtc)
 }
 
 // 41, 42, 27, 10 and 28, or 0 and the new file's length, for an output of `room`.
@@ -132,14 +119,8 @@ fn plan_file(bytes: &[u8], l: RasterLayout, room: usize, row: &mut [u16]) -> Wri
     ensures { λ _. ⌜ length (now (row .exit)) ≡ length (now (row .entry)) ⌝ }
 {
     let lines = survey_lines(bytes, l, row);
-    if lines.refused {
-        return rejected(41);
-    }
-    if lines.partway {
-        return rejected(42);
-    }
     let size = l.start + lines.size.0;
-    answer_by_size(l.scn, lines.long, size, room)
+    answer_by_lines(l.scn, lines.refused, lines.partway, lines.long, size, room)
 }
 
 // Goes through the scanlines before one is written.
@@ -207,14 +188,6 @@ fn either(a: bool, b: bool) -> bool
     b
 }
 
-// Puts the old header over the start of the output, with the new data type.
-fn carry_header(header: &[u8], to: u16, out: &mut [u8])
-    ensures { λ _. ⌜ now (out .exit) ≡ sets (over (now (header .entry)) (now (out .entry))) 4 (twoBytes to) ⌝ }
-{
-    copy(header, out);
-    put_word(out, 4, to);
-}
-
 // Writes the new scanlines one after the other.
 fn write_lines(bytes: &[u8], l: RasterLayout, row: &mut [u16], out: &mut [u8])
     requires { ⌜ Ready (rasterOf l (now bytes)) (now row) ⌝ }
@@ -263,9 +236,7 @@ fn put_line(scn: u8, to: u16, rest: &[u8], row: &[u16], out: &mut [u8]) -> Bytes
     if scn != 1 {
         return write_body(to, scn, row, out);
     }
-    copy(&rest[..8], out);
     let body = write_body(to, scn, row, &mut out[8..]);
-    let follow = bytes_to_words(body).0 + 2;
-    put_word(out, 2, follow as u16);
+    fit_header(&rest[..8], bytes_to_words(body), out);
     Bytes(8 + body.0)
 }

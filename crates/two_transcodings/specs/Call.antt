@@ -9,7 +9,7 @@ use Rattle.layout.specs.Reading.{rejectedRaster, rasterReading, pixelsAfter, ma
 use Rattle.decode_raster.specs.Answer.{rasterNumbers}
 use Rattle.encode_answer.specs.declared.WriteAnswer.{WriteAnswer}
 use Rattle.encode_answer.specs.Answer.{writeNumbers}
-use Rattle.transcode.specs.File.{otherType}
+use Rattle.transcode_parts.specs.Headers.{otherType}
 use Rattle.transcode.specs.Transcoding.{transcoding, outTranscoded}
 use Rattle.there_and_back.specs.Statement.{withDataType}
 use Rattle.two_transcodings.specs.declared.TwoMoves.{TwoMoves}

@@ -20,7 +20,8 @@ use Rattle.layout.specs.Chain.{Raster, from, stepAt, start, reached, headAt, bo
 use Rattle.layout.specs.laws.Chain.{start-zero, start-suc, reading-reached, reading-unreached, length-reading, start-within}
 use Rattle.layout.specs.laws.Written.{Back, Heads, line-back}
 use Rattle.layout.specs.laws.Lined.{Lined, stands, reads}
-use Rattle.transcode.specs.File.{otherType, fittedHeader, newLine, newLineAt, newLines}
+use Rattle.transcode_parts.specs.Headers.{otherType}
+use Rattle.transcode.specs.File.{fittedHeader, newLine, newLineAt, newLines}
 use Rattle.there_and_back.specs.Statement.{IsBytes, storedBody, BodiesAsWritten}
 use Rattle.there_and_back.specs.laws.Levels.{TwoLevels}
 use Rattle.there_and_back.specs.laws.Line.{bytes-drop, good-levels, good-heads, packed-stored, line-stands}

@@ -15,8 +15,9 @@ use Rattle.header.specs.Rejections.{rulesTo22, rejectionTo22}
 use Rattle.header.specs.laws.Accepted.{accepted}
 use Rattle.layout.specs.Scanline.{pixelOffset}
 use Rattle.layout.specs.Chain.{sheetOf, headAt, readingAt}
+use Rattle.transcode_parts.specs.Rules.{typeRules}
 use Rattle.transcode.specs.File.{carriedHeader, transcoded}
-use Rattle.transcode.specs.Transcoding.{isRefused, isPartway, typeRules, lineRules, transcodeRejection}
+use Rattle.transcode.specs.Transcoding.{isRefused, isPartway, lineRules, transcodeRejection}
 use Rattle.transcode.specs.laws.Lines.{line-none}
 use Rattle.there_and_back.specs.laws.Levels.{TwoLevels}
 use Rattle.there_and_back.specs.laws.Header.{length-carried, is-split, fields-are, not-rejected}

@@ -22,7 +22,8 @@ use Rattle.header.specs.laws.Accepted.{Accepted, accepted}
 use Rattle.layout.specs.Chain.{sheetOf}
 use Rattle.isolation.specs.laws.Headers.{same-table}
 use Rattle.trailing.specs.laws.Header.{frame-holds}
-use Rattle.transcode.specs.File.{otherType, carriedHeader, newLines, transcoded}
+use Rattle.transcode_parts.specs.Headers.{otherType}
+use Rattle.transcode.specs.File.{carriedHeader, newLines, transcoded}
 use Rattle.there_and_back.specs.laws.Levels.{TwoLevels}
 use Rattle.there_and_back.specs.laws.Placing.{word-there}
 

@@ -21,7 +21,8 @@ use Rattle.header.specs.laws.Accepted.{accepted}
 use Rattle.layout.specs.Chain.{Raster, sheetOf, start, readingAt, rows, statuses, goodCount}
 use Rattle.layout.specs.Reading.{RasterNumbers, bufferRules, rasterRejection, answerOf, readNumbers, rasterReading, pixelsAfter, marksAfter}
 use Rattle.layout.specs.laws.Lined.{Lined, reads, statuses-are, good-are, end-is}
-use Rattle.transcode.specs.File.{otherType, carriedHeader, newLineAt, newLines, transcoded}
+use Rattle.transcode_parts.specs.Headers.{otherType}
+use Rattle.transcode.specs.File.{carriedHeader, newLineAt, newLines, transcoded}
 use Rattle.transcode.specs.Transcoding.{transcodeRejection}
 use Rattle.there_and_back.specs.Statement.{IsBytes, BodiesAsWritten, NothingFollows, ComesBack, ReadsAsBefore, AllReadAsBefore}
 use Rattle.there_and_back.specs.laws.Chain.{Movable, Moved, other-other, packed-written, lined, lines-again}

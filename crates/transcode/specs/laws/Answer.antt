@@ -14,11 +14,12 @@ use Rattle.layout.specs.Scanline.{headOf, pixelOffset, stepOf, readingOf}
 use Rattle.layout.specs.declared.RasterLayout.{RasterLayout}
 use Rattle.layout.specs.Chain.{Raster, sheetOf, rasterOf}
 use Rattle.encode_answer.specs.Sizes.{mostWords}
+use Rattle.transcode_parts.specs.Rules.{typeRules}
 use Rattle.transcode.specs.declared.LineSizes.{LineSizes}
 use Rattle.transcode.specs.declared.LineSurvey.{LineSurvey}
 use Rattle.transcode.specs.declared.Survey.{Survey}
 use Rattle.transcode.specs.File.{newLine, newLines}
-use Rattle.transcode.specs.Transcoding.{anyLine, isRefused, isPartway, isLong, typeRules}
+use Rattle.transcode.specs.Transcoding.{anyLine, isRefused, isPartway, isLong}
 
 -- the row of a scanline, from the bytes that are left
 abbrev pub oldRow : ℕ → ℕ → ℕ → ℕ → List ℕ → List ℕ

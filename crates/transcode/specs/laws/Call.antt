@@ -10,8 +10,9 @@ use Rattle.layout.specs.Chain.{sheetOf}
 use Rattle.encode_answer.specs.declared.WriteAnswer.{WriteAnswer}
 use Rattle.encode_answer.specs.Answer.{writeNumbers}
 use Rattle.encode_answer.specs.laws.Call as call
+use Rattle.transcode_parts.specs.Rules.{typeRules}
 use Rattle.transcode.specs.File.{transcoded}
-use Rattle.transcode.specs.Transcoding.{typeRules, lineRules, transcodeRejection, transcoding, outTranscoded}
+use Rattle.transcode.specs.Transcoding.{lineRules, transcodeRejection, transcoding, outTranscoded}
 
 module _ (f : List ℕ) (room : ℕ) where
   none : transcodeRejection f room ≡ 0 → NoneHolds (lineRules (sheetOf f) (length (transcoded f)) room)

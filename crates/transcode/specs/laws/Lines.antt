@@ -1,28 +1,27 @@
 -- The scanlines of a raster that is moved, one at a time: where each is, what it reads as, and how long the new ones are.
-use Prim.Native.Nat.{ℕ, zero, suc, _+_, _-_, _*_, _≤_, _<_}
+use Prim.Native.Nat.{ℕ, zero, suc, _+_, _-_, _≤_, _<_}
 use mathlib.Core.Path.{_≡_, refl, sym, _∙_, ap}
-use mathlib.Core.Bool.{Bool, true, false, not, cond, _&&_, _||_, false≢true}
-use mathlib.Core.Logic.{⊎-elim, inl, inr}
+use mathlib.Core.Bool.{Bool, true, false, cond, _||_, false≢true}
+use mathlib.Core.Logic.{inl, inr}
 use mathlib.Core.List.{List, [], _++_}
-use native.Mathlib.Nat.{eq-or-lt-of-le}
 use native.Mathlib.Omega.{arith}
-use borrow.Author.Tests.{eqb-true, eq-eqb, not-false}
+use borrow.Author.Tests.{eqb-true}
 use lib.ListN.{length, take, drop, length-append, length-drop}
 use lib.Seq.{length-take-le, length-sets}
 use lib.Dec.{eqb}
-use Rattle.units.specs.Counts.{wordBytes}
 use Rattle.units.specs.Words.{wordCount, twoBytes}
 use Rattle.units.specs.laws.Numbers.{below-next}
 use Rattle.units.specs.laws.Parts.{rest-is}
 use Rattle.codec.specs.Table.{bodyBytes}
 use Rattle.layout.specs.Scanline.{headOf, bodyOf, Reading, Step, headedReading, stepOf, readingOf}
-use Rattle.layout.specs.Chain.{Raster, from, stepAt, start, reached, headAt, numberOf, readingAt}
-use Rattle.layout.specs.laws.Chain.{start-suc, reached-suc, reading-reached, length-reading}
+use Rattle.layout.specs.Chain.{Raster, from, stepAt, start, reached, headAt, readingAt}
+use Rattle.layout.specs.laws.Chain.{start-suc, reached-suc, reading-reached}
 use Rattle.layout.specs.laws.Line.{no-fault, not-lost, used-within, good-not-lost}
 use Rattle.scan_scanline.specs.Answer.{bodyStart}
 use Rattle.encode_body.specs.laws.Most.{body-most}
-use Rattle.transcode.specs.File.{otherType, fittedHeader, newLine, newLineAt, newLines}
-use Rattle.transcode.specs.Transcoding.{anyLine, isRefused}
+use Rattle.transcode_parts.specs.Headers.{otherType}
+use Rattle.transcode.specs.File.{fittedHeader, newLine, newLineAt, newLines}
+use Rattle.transcode.specs.Transcoding.{anyLine}
 
 or-none : (a b : Bool) → (a || b) ≡ false → (a ≡ false) × (b ≡ false)
 or-none false b e = (refl, e)

@@ -1,5 +1,5 @@
 -- The loop that surveys the scanlines: what holds before scanline k, at its start, from turn to turn, where one is refused, and at its end.
-use Prim.Native.Nat.{ℕ, zero, suc, _+_, _-_, _*_, _^_, _≤_, _<_, zero-le}
+use Prim.Native.Nat.{ℕ, _+_, _-_, _*_, _≤_, _<_, zero-le}
 use mathlib.Core.Path.{_≡_, refl, sym, _∙_, ap, ap₂, subst, subst⁻¹}
 use mathlib.Core.Bool.{Bool, true, false, not, cond, _&&_, _||_, false≢true}
 use mathlib.Core.List.{List}
@@ -13,19 +13,21 @@ use Rattle.units.specs.Rules.{first}
 use Rattle.units.specs.Words.{wordCount}
 use Rattle.codec.specs.Table.{bodyBytes}
 use Rattle.layout.specs.Scanline.{headOf, pixelOffset, Reading, readingOf}
-use Rattle.layout.specs.Chain.{Raster, start, reached, headAt, readingAt}
+use Rattle.layout.specs.Chain.{Raster, start, reached, readingAt}
 use Rattle.layout.specs.laws.Chain.{start-zero, reached-zero, length-reading}
 use Rattle.layout.specs.laws.Line.{length-row}
 use Rattle.scan_scanline.specs.Answer.{bodyStart, firstColumn}
 use Rattle.encode_answer.specs.declared.WriteAnswer.{WriteAnswer}
-use Rattle.encode_answer.specs.Sizes.{mostWords, sizeRules, answerBy}
+use Rattle.encode_answer.specs.Sizes.{mostWords, answerBy}
 use Rattle.encode_answer.specs.Answer.{writeNumbers}
+use Rattle.transcode_parts.specs.Headers.{otherType}
+use Rattle.transcode_parts.specs.Rules.{foundRules}
 use Rattle.transcode.specs.declared.LineSurvey.{LineSurvey}
 use Rattle.transcode.specs.declared.Survey.{Survey}
-use Rattle.transcode.specs.File.{otherType, newLines}
+use Rattle.transcode.specs.File.{newLines}
 use Rattle.transcode.specs.Transcoding.{anyLine, isRefused, isPartway, isLong, lineRules}
 use Rattle.transcode.specs.laws.Answer.{oldRow, newSize, Ready, IsSurvey, Surveyed}
-use Rattle.transcode.specs.laws.Lines.{line-some, line-next, line-first, lines-first, lent, reading-is, head-is, step-is, next-within, reached-next, start-next, length-line, line-most}
+use Rattle.transcode.specs.laws.Lines.{line-some, line-next, line-first, lines-first, lent, reading-is, head-is, next-within, reached-next, start-next, length-line, line-most}
 
 -- a first column that is not 0
 pub partway-by : (scn : ℕ) (rest : List ℕ) {column : ℕ} → column ≡ firstColumn scn rest
@@ -150,24 +152,18 @@ survey-done r at partway long size row k now e =
       most = omega (arith, now .size-most);
     }
 
--- the answer by a survey
-module _ (r : Raster) (room : ℕ) {s : Survey} (surveyed : Surveyed r s) where
-  abbrev Planned : WriteAnswer → Type 0
-  Planned a = writeNumbers a ≡ answerBy (first (lineRules r (newSize r) room)) (newSize r)
-
-  pub plan-41 : s .refused ≡ true → {a : WriteAnswer} → a ≡ record { number = 41; size = nBytes 0 } → Planned a
-  plan-41 t e = ap writeNumbers e ∙ simp (sym (surveyed .refused) ∙ t)
-
-  module _ (none : s .refused ≡ false) where
-    pub plan-42 : s .partway ≡ true → {a : WriteAnswer} → a ≡ record { number = 42; size = nBytes 0 } → Planned a
-    plan-42 t e = ap writeNumbers e ∙ simp (sym (surveyed .refused) ∙ none, sym (surveyed .partway none) ∙ t)
-
-    pub plan-sizes : s .partway ≡ false → {a : WriteAnswer}
-        → writeNumbers a ≡ answerBy (first (sizeRules (r .scn) (s .long) (r .dataStart + s .size .0) room)) (r .dataStart + s .size .0)
-        → Planned a
-    plan-sizes t e =
-        let rules : first (lineRules r (newSize r) room) ≡ first (sizeRules (r .scn) (anyLine (isLong r) (r .nol)) (newSize r) room) =
-        simp (sym (surveyed .refused) ∙ none, sym (surveyed .partway none) ∙ t) in
-        e
-        ∙ (λ j. answerBy (first (sizeRules (r .scn) (surveyed .long none j) (r .dataStart + surveyed .size none j) room)) (r .dataStart + surveyed .size none j))
-        ∙ ap (λ (n : ℕ). answerBy n (newSize r)) (sym rules)
+-- The answer by a survey. Where a scanline is refused the rest of it does not matter.
+pub planned : (r : Raster) (room : ℕ) {s : Survey} → Surveyed r s → {a : WriteAnswer}
+    → (let size = r .dataStart + s .size .0 in
+    writeNumbers a ≡ answerBy (first (foundRules (r .scn) (s .refused) (s .partway) (s .long) size room)) size)
+    → writeNumbers a ≡ answerBy (first (lineRules r (newSize r) room)) (newSize r)
+planned r room {s} surveyed e = e ∙ go (s .refused) refl
+  where
+    go : (b : Bool) → s .refused ≡ b
+        → (let size = r .dataStart + s .size .0 in
+        answerBy (first (foundRules (r .scn) (s .refused) (s .partway) (s .long) size room)) size ≡ answerBy (first (lineRules r (newSize r) room)) (newSize r))
+    go true t = simp (t, sym (surveyed .refused) ∙ t)
+    go false t =
+        λ j.
+        let size = r .dataStart + surveyed .size t j in
+        answerBy (first (foundRules (r .scn) (surveyed .refused j) (surveyed .partway t j) (surveyed .long t j) size room)) size

@@ -3,10 +3,10 @@ use Prim.Native.Nat.{ℕ, _+_, _-_, _≤_}
 use mathlib.Core.Path.{_≡_, refl, sym, _∙_, ap, subst, subst⁻¹}
 use mathlib.Core.List.{List, [], _++_, append-assoc}
 use native.Mathlib.Omega.{arith}
-use borrow.Author.Tests.{ltb-false, eq-eqb, ne-eqb}
+use borrow.Author.Tests.{ltb-false, ne-eqb}
 use borrow.Rule.Slice.PartMut.{midOf, putMid}
 use lib.ListN.{length, take, drop, length-append, length-drop}
-use lib.Seq.{sets, length-take-le, length-sets}
+use lib.Seq.{length-take-le, length-sets}
 use Rattle.units.specs.Counts.{nBytes}
 use Rattle.units.specs.Over.{over}
 use Rattle.units.specs.Rules.{Rule, first}
@@ -22,36 +22,12 @@ use Rattle.encode_answer.specs.declared.WriteAnswer.{WriteAnswer}
 use Rattle.encode_answer.specs.Sizes.{answerBy}
 use Rattle.encode_answer.specs.Answer.{writeNumbers}
 use Rattle.encode_answer.specs.laws.Call as call
-use Rattle.transcode.specs.File.{otherType, carriedHeader, newLines, transcoded}
-use Rattle.transcode.specs.Transcoding.{typeRules, lineRules, transcodeRejection, transcoding, outTranscoded}
+use Rattle.transcode_parts.specs.Headers.{otherType, withType}
+use Rattle.transcode_parts.specs.Rules.{typeRules}
+use Rattle.transcode.specs.File.{carriedHeader, newLines, transcoded}
+use Rattle.transcode.specs.Transcoding.{lineRules, transcodeRejection, transcoding, outTranscoded}
 use Rattle.transcode.specs.laws.Answer.{newSize, Movable, Ready, LinesFit}
 use Rattle.transcode.specs.laws.Writing.{word-first}
-
--- the file's rules, by what the functions find
-module _ (f : List ℕ) {n : ℕ} (number : n ≡ rejectionTo22 f) where
-  abbrev known : List Rule
-  known = typeRules (sheetOf f .dataType)
-
-  pub type-later : (n ≡ 0 → ⊥) → n ≡ first (rulesTo22 f ++ known)
-  unfolding rejectionTo22
-  type-later some = number ∙ sym (first-here (rulesTo22 f) known (λ z. some (number ∙ z)))
-
-  module _ (none : n ≡ 0) {l : RasterLayout} (laid : rasterOf l f ≡ sheetOf f) where
-    type-is : sheetOf f .dataType ≡ l .dtc
-    type-is = sym (ap (λ (r : Raster). r .dataType) laid)
-
-    by-type : first (rulesTo22 f ++ known) ≡ first (typeRules (l .dtc))
-    unfolding rejectionTo22
-    by-type = first-later (rulesTo22 f) known tt (sym number ∙ none) ∙ ap (λ (t : ℕ). first (typeRules t)) type-is
-
-    pub type-1 : l .dtc ≡ 1 → 0 ≡ first (rulesTo22 f ++ known)
-    type-1 e = sym (by-type ∙ simp (eq-eqb (l .dtc) 1 e))
-
-    pub type-9 : (l .dtc ≡ 1 → ⊥) → l .dtc ≡ 9 → 0 ≡ first (rulesTo22 f ++ known)
-    type-9 m e = sym (by-type ∙ simp (ne-eqb (l .dtc) 1 m, eq-eqb (l .dtc) 9 e))
-
-    pub type-other : (l .dtc ≡ 1 → ⊥) → (l .dtc ≡ 9 → ⊥) → 30 ≡ first (rulesTo22 f ++ known)
-    type-other m o = sym (by-type ∙ simp (ne-eqb (l .dtc) 1 m, ne-eqb (l .dtc) 9 o))
 
 -- the answer and the output of a call
 abbrev Transcoded : List ℕ → List ℕ → WriteAnswer → List ℕ → Type 0
@@ -138,13 +114,13 @@ module _ (f out : List ℕ) {n : ℕ} (number : n ≡ first (rulesTo22 f ++ type
         room = ltb-false (length out) (newSize r) (none-hold .1 .1 .1 .1 .0)
 
         module _ {header now : List ℕ} {to : ℕ} (taken : header ≡ take (r .dataStart) f) (typed : to ≡ otherType (r .dataType))
-            (put : now ≡ sets (over header out) 4 (twoBytes to)) where
+            (put : now ≡ withType (over header out) to) where
           header-put : now ≡ carriedHeader f ++ drop (r .dataStart) out
           header-put =
               let l : length (take (r .dataStart) f) ≡ r .dataStart = length-take-le (r .dataStart) f (a₀ .inside) in
               put
-              ∙ (λ j. sets (over (taken j) out) 4 (twoBytes (typed j)))
-              ∙ ap (λ (x : List ℕ). sets x 4 (twoBytes (otherType (r .dataType))))
+              ∙ (λ j. withType (over (taken j) out) (typed j))
+              ∙ ap (λ (x : List ℕ). withType x (otherType (r .dataType)))
               (over-fits (take (r .dataStart) f) out (omega (arith, room)) ∙ ap (λ (m : ℕ). take (r .dataStart) f ++ drop m out) l)
               ∙ word-first (take (r .dataStart) f) (drop (r .dataStart) out) 4 (otherType (r .dataType)) (omega (arith, l, a₀ .blocks))
 
@@ -203,7 +179,7 @@ module _ (f : List ℕ) (l : RasterLayout) (row : List ℕ) (m : Movable f l row
     pub not-planned : (a .number ≡ 0 → ⊥) → Transcoded f out a out
     not-planned some = by-plan f out (sym (m .accepted)) refl planned-so some
 
-    pub header-carried : a .number ≡ 0 → {now : List ℕ} {to : ℕ} → to ≡ otherType (l .dtc) → now ≡ sets (over (take (l .start) f) out) 4 (twoBytes to)
+    pub header-carried : a .number ≡ 0 → {now : List ℕ} {to : ℕ} → to ≡ otherType (l .dtc) → now ≡ withType (over (take (l .start) f) out) to
         → Carried (rasterOf l f) f out a now
     header-carried done {now} typed put =
         subst⁻¹ (λ (r : Raster). Carried r f out a now) (m .laid)

@@ -1,8 +1,8 @@
 -- One new scanline put at the start of an output; and the loop that writes them: what holds before scanline k, at its start, from turn to
 -- turn and at its end.
-use Prim.Native.Nat.{ℕ, zero, suc, _+_, _-_, _/_, _%_, _≤_, _<_, zero-le}
+use Prim.Native.Nat.{ℕ, zero, suc, _+_, _-_, _/_, _%_, _≤_, _<_, min, zero-le}
 use mathlib.Core.Path.{_≡_, refl, sym, _∙_, ap, subst, subst⁻¹}
-use mathlib.Core.Bool.{Bool, true, false, _&&_}
+use mathlib.Core.Bool.{true, false}
 use mathlib.Core.List.{List, _++_, append-assoc}
 use mathlib.Core.Logic.{⊎-elim}
 use native.Mathlib.Nat.{eq-or-lt-of-le}
@@ -11,8 +11,8 @@ use native.Mathlib.Omega.{arith}
 use borrow.Author.Tests.{eq-eqb, ne-eqb, eqb-true, ltb-false, not-false}
 use borrow.Rule.Slice.PartMut.{midOf, putMid, same-len-mid}
 use lib.ListN.{length, take, drop, set, length-append, length-drop, length-set}
-use lib.Seq.{sets, length-sets, set-append-left, drop-drop, drop-at, take-at}
-use lib.Dec.{eqb, ltb}
+use lib.Seq.{sets, set-append-left, drop-drop, drop-at, length-take-le}
+use lib.Dec.{eqb}
 use Rattle.units.specs.Counts.{nBytes, wordsOfBytes}
 use Rattle.units.specs.Over.{over}
 use Rattle.units.specs.Words.{wordCount, twoBytes}
@@ -24,11 +24,12 @@ use Rattle.layout.specs.Chain.{Raster, start, reached, readingAt}
 use Rattle.layout.specs.laws.Chain.{start-zero, reached-zero}
 use Rattle.layout.specs.laws.Line.{length-row}
 use Rattle.encode_answer.specs.Sizes.{mostWords}
+use Rattle.transcode_parts.specs.Headers.{otherType, fitted}
 use Rattle.transcode.specs.declared.LineSizes.{LineSizes}
-use Rattle.transcode.specs.File.{otherType, fittedHeader, newLine, newLineAt, newLines}
+use Rattle.transcode.specs.File.{fittedHeader, newLine, newLineAt, newLines}
 use Rattle.transcode.specs.Transcoding.{anyLine, isRefused, isLong}
 use Rattle.transcode.specs.laws.Answer.{Ready, oldRow, LineFits, IsWritten, LinesFit}
-use Rattle.transcode.specs.laws.Lines.{line-none, lines-first, lines-next, lent, reading-is, next-within, reached-next, start-next, eight-lent, line-lent}
+use Rattle.transcode.specs.laws.Lines.{line-none, lines-first, lines-next, length-new, lent, reading-is, next-within, reached-next, start-next, eight-lent, line-lent}
 
 -- a word put into the first of two lists
 pub word-first : (a b : List ℕ) (i w : ℕ) → i + 2 ≤ length a → sets (a ++ b) i (twoBytes w) ≡ sets a i (twoBytes w) ++ b
@@ -59,59 +60,42 @@ module _ (scn to : ℕ) (rest row out : List ℕ) (fits : LineFits scn to (headO
       let r : length body ≤ length out = omega (arith, fits .room, ap length o) in
       rw o (e .0, e .1 ∙ over-fits body out r)
 
-  -- with one: it is copied, the body is put behind it, and then the words to follow are fitted
+  -- with one: the body is put behind its place, and then it is put there, fitted
   module _ (one : scn ≡ 1) where
-    pub length-headed : length line ≡ 8 + length body
-    length-headed =
-        omega (
-          arith,
-          ap length (headed-is one),
-          length-append (fittedHeader (headOf rest) body) body,
-          length-sets (headOf rest) 2 (twoBytes (wordCount body .0 + 2)),
-          fits .eight one,
-        )
+    length-headed : length line ≡ 8 + length body
+    length-headed = rw (eq-eqb scn 1 one) at (length-new scn to (headOf rest) row (fits .eight))
 
     pub headed-room : 8 + length body ≤ length out
     headed-room = omega (arith, fits .room, length-headed)
 
-    module _ {copied : List ℕ} (copy : copied ≡ over (headOf rest) out) where
-      copied-is : copied ≡ headOf rest ++ drop 8 out
-      copied-is =
-          copy
-          ∙ over-fits (headOf rest) out (omega (arith, headed-room, fits .eight one))
-          ∙ ap (λ (n : ℕ). headOf rest ++ drop n out) (fits .eight one)
-
-      pub copied-length : length copied ≡ length out
-      copied-length =
-          omega (arith, ap length copied-is, length-append (headOf rest) (drop 8 out), length-drop 8 out, headed-room, fits .eight one)
-
-      pub line-headed : {size follow : ℕ} {part now : List ℕ}
-          → (size ≡ length body) × (part ≡ over body (midOf 8 (length copied - 8) copied))
-          → follow ≡ wordsOfBytes (nBytes size) .0
-          → now ≡ sets (putMid 8 (length copied - 8) copied part) 2 (twoBytes (follow + 2))
-          → (8 + size ≡ length line) × (now ≡ line ++ drop (length line) out)
-      line-headed {size} {follow} {part} e f p =
-          let hd = headOf rest in
-          let eight = fits .eight one in
-          let tail : midOf 8 (length copied - 8) copied ≡ drop 8 out =
-          tail-is 8 copied ∙ ap (drop 8) copied-is ∙ drop-at hd (drop 8 out) 8 eight in
-          let put : part ≡ body ++ drop (8 + length body) out =
-          e .1
-          ∙ ap (over body) tail
-          ∙ over-fits body (drop 8 out) (omega (arith, length-drop 8 out, headed-room))
-          ∙ ap (λ (l : List ℕ). body ++ l) (drop-drop (length body) 8 out) in
-          let placed : putMid 8 (length copied - 8) copied part ≡ hd ++ part =
-          put-tail 8 copied part ∙ ap (λ (l : List ℕ). l ++ part) (ap (take 8) copied-is ∙ take-at hd (drop 8 out) 8 eight) in
-          let w : follow + 2 ≡ wordCount body .0 + 2 = ap (λ (n : ℕ). n + 2) (f ∙ ap (λ (n : ℕ). wordsOfBytes (nBytes n) .0) (e .0)) in (
-            omega (arith, e .0, length-headed),
-            p
-                ∙ (λ j. sets (placed j) 2 (twoBytes (w j)))
-                ∙ word-first hd part 2 (wordCount body .0 + 2) (omega (arith, eight))
-                ∙ ap (λ (l : List ℕ). fittedHeader hd body ++ l) put
-                ∙ sym (append-assoc (fittedHeader hd body) body (drop (8 + length body) out))
-                ∙ ap (λ (l : List ℕ). l ++ drop (8 + length body) out) (sym (headed-is one))
-                ∙ ap (λ (n : ℕ). line ++ drop n out) (sym length-headed),
-          )
+    pub line-headed : {size words : ℕ} {part now : List ℕ}
+        → (size ≡ length body) × (part ≡ over body (midOf 8 (length out - 8) out))
+        → words ≡ wordsOfBytes (nBytes size) .0
+        → now ≡ fitted (over (headOf rest) (putMid 8 (length out - 8) out part)) (min words (mostWords .0))
+        → (8 + size ≡ length line) × (now ≡ line ++ drop (length line) out)
+    line-headed {size} {words} {part} e f p =
+        let hd = headOf rest in
+        let eight = fits .eight one in
+        let put : part ≡ body ++ drop (8 + length body) out =
+        e .1
+        ∙ ap (over body) (tail-is 8 out)
+        ∙ over-fits body (drop 8 out) (omega (arith, length-drop 8 out, headed-room))
+        ∙ ap (λ (l : List ℕ). body ++ l) (drop-drop (length body) 8 out) in
+        let front : length (take 8 out) ≡ 8 = length-take-le 8 out (omega (arith, headed-room)) in
+        let placed : over hd (putMid 8 (length out - 8) out part) ≡ hd ++ part =
+        ap (over hd) (put-tail 8 out part)
+        ∙ over-fits hd (take 8 out ++ part) (omega (arith, eight, front, length-append (take 8 out) part))
+        ∙ ap (λ (l : List ℕ). hd ++ l) (drop-at (take 8 out) part (length hd) (front ∙ sym eight)) in
+        let w : min words (mostWords .0) ≡ wordCount body .0 = omega (arith, f, e .0, fits .counted one) in (
+          omega (arith, e .0, length-headed),
+          p
+              ∙ (λ j. fitted (placed j) (w j))
+              ∙ word-first hd part 2 (wordCount body .0 + 2) (omega (arith, eight))
+              ∙ ap (λ (l : List ℕ). fittedHeader hd body ++ l) put
+              ∙ sym (append-assoc (fittedHeader hd body) body (drop (8 + length body) out))
+              ∙ ap (λ (l : List ℕ). l ++ drop (8 + length body) out) (sym (headed-is one))
+              ∙ ap (λ (n : ℕ). line ++ drop n out) (sym length-headed),
+        )
 
 -- fewer scanlines are no longer
 grows : (r : Raster) (n k : ℕ) → k ≤ n → length (newLines r k) ≤ length (newLines r n)

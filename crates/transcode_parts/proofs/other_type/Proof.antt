@@ -1,6 +1,6 @@
 use borrow.Author.Tests.{eq-eqb, ne-eqb}
-use Rattle.transcode.proofs.other_type.Statement.{statement}
-use Rattle.transcode.proofs.other_type.Tie as tie
+use Rattle.transcode_parts.proofs.other_type.Statement.{statement}
+use Rattle.transcode_parts.proofs.other_type.Tie as tie
 
 returns : tie.Need-returns
 returns c = simp (eq-eqb _ _ (c .if1 .taken))
