@@ -11,7 +11,8 @@ ROOT = pathlib.Path(__file__).resolve().parent.parent
 HEAD = re.compile(r'\bpub\s+(?:extern\s+"C"\s+)?fn\s+(\w+)\s*(?:<[^>]*>)?\s*\(')
 CLAUSE = re.compile(r'\s*(requires|ensures|ghost|decreases)\b\s*(\w*)\s*\{')
 PROOF = re.compile(r'(?<![\w-])(refl|rw|simp|omega|search|cc|absurd|subst)(?![\w-])')
-FACTOR = re.compile(r'[*/] *(2|256|512)(?![0-9_])|(?<![0-9_.])(2|256|512) *[*]')
+# A power of two is the weight of a bit.
+FACTOR = re.compile(r'[*/] *(2|256|512)(?![0-9_]| *\^)|(?<![0-9_.])(2|256|512) *[*]')
 # Whether a number is odd is no division.
 DIVISION = re.compile(r'/|>>|%(?! *2(?![0-9_]))')
 # The scale of a color from a byte to 16 bits is no count.
