@@ -40,10 +40,14 @@ fn bytes_held(body: &[u8], size: usize) -> usize
     lesser(words_to_bytes(Words(pixels_held(body, size))).0, size)
 }
 
-// The pixels of a word from the first on, as far as the part goes, one at a time.
+// The pixels of a word from the first on, as far as the part goes, one at a time. A row that ends with a word leaves none, which is told
+// at once, since lines may be narrow.
 fn put_last(w: u16, part: &mut [u8])
     ensures { λ _. ⌜ now (part .exit) ≡ over (wordsToBytes (bits 16 w)) (now (part .entry)) ⌝ }
 {
+    if part.len() == 0 {
+        return;
+    }
     let mut pixels = [0u16; 16];
     put_bits(w, &mut pixels);
     store_words(&pixels, part);
