@@ -9,21 +9,17 @@ ghost use Rattle.units.specs.Over.{over};
 ghost use Rattle.units.specs.Words.{words, wordCount};
 ghost use Rattle.packing.specs.Packing.{bits, wordBits};
 ghost use Rattle.packing.specs.Weights.{powers, pick, picked};
-use packing::packed_count;
+use slices::widen;
 use units::lesser;
 use units::u16_at;
 use units::word_count;
 
-// How many of a row's p pixels the words of a body hold. The words are compared, so no product can overflow.
+// How many of a row's p pixels the words of a body hold. Words are compared, so no product can overflow.
 pub fn pixels_held(body: &[u8], p: usize) -> usize
     ensures { λ r. ⌜ r ≡ min (16 * wordCount (now (body .entry)) .0) p ⌝ }
 {
     let count = word_count(body).0;
-    if count < packed_count(p) {
-        16 * count
-    } else {
-        p
-    }
+    if count <= p / 16 { 16 * count } else { p }
 }
 
 // Stores a body's pixels from the start of a row on, as far as both go.
@@ -31,7 +27,7 @@ pub fn unpack(body: &[u8], row: &mut [u16])
     ensures { λ _. ⌜ now (row .exit) ≡ over (wordBits (words (now (body .entry)))) (now (row .entry)) ⌝ }
 {
     let n = pixels_held(body, row.len());
-    let weights = kept_weights(n % 8);
+    let weights = kept_weights(n / 16);
     let whole = n - n % 16;
     let mut at = 0;
     let mut i = 0;
@@ -44,17 +40,20 @@ pub fn unpack(body: &[u8], row: &mut [u16])
     put_bits(u16_at(body, i), &mut row[at..n]);
 }
 
-// The weights of a byte's bits, the highest first.
-const WEIGHTS: [u16; 8] = [128, 64, 32, 16, 8, 4, 2, 1];
+// The weights of a byte's bits, the highest first; and all of them once more.
+const TWICE: [u8; 16] = [128, 64, 32, 16, 8, 4, 2, 1, 128, 64, 32, 16, 8, 4, 2, 1];
 
-// The weights. The store changes nothing: at a place that the compiler does not know it keeps them in memory, and eight pixels are then
-// made at once; as constants they become shifts, a pixel at a time.
-fn kept_weights(k: usize) -> [u16; 8]
-    requires { ⌜ k < 8 ⌝ }
+// The weights, out of one half or the other by a number that is not known before: how many words there are. The halves are the same, but
+// the compiler does not see it, and so keeps the weights in a register and makes eight pixels at once. Of constants it makes shifts, a
+// pixel at a time.
+fn kept_weights(n: usize) -> [u16; 8]
     ensures { λ r. ⌜ r ≡ powers 8 ⌝ }
 {
-    let mut weights = WEIGHTS;
-    weights[k] = WEIGHTS[k];
+    let twice = TWICE;
+    let from = 8 * (n % 2);
+    let end = from + 8;
+    let mut weights = [0u16; 8];
+    widen(&twice[from..end], &mut weights);
     weights
 }
 

@@ -7,12 +7,10 @@ ghost use Rattle.units.specs.Over.{over};
 ghost use Rattle.units.specs.Words.{words, wordCount, wordsToBytes};
 ghost use Rattle.packing.specs.Packing.{bits, wordBits};
 ghost use Rattle.packing.specs.Weights.{powers, pick, picked};
-use units::Words;
-use units::lesser;
+use slices::copy;
 use units::store_words;
 use units::u16_at;
-use units::words_to_bytes;
-use unpacking::pixels_held;
+use units::word_count;
 use unpacking::put_bits;
 
 // Stores a body's pixels from the start of a row on, as far as both go.
@@ -20,7 +18,7 @@ pub fn unpack_bytes(body: &[u8], row: &mut [u8])
     ensures { λ _. ⌜ now (row .exit) ≡ over (wordsToBytes (wordBits (words (now (body .entry))))) (now (row .entry)) ⌝ }
 {
     let n = bytes_held(body, row.len());
-    let weights = kept_weights(n % 16);
+    let weights = kept_weights(n / 32);
     let whole = n - n % 32;
     let mut at = 0;
     let mut i = 0;
@@ -37,7 +35,8 @@ pub fn unpack_bytes(body: &[u8], row: &mut [u8])
 fn bytes_held(body: &[u8], size: usize) -> usize
     ensures { λ r. ⌜ r ≡ min (32 * wordCount (now (body .entry)) .0) size ⌝ }
 {
-    lesser(words_to_bytes(Words(pixels_held(body, size))).0, size)
+    let count = word_count(body).0;
+    if count <= size / 32 { 32 * count } else { size }
 }
 
 // The pixels of a word from the first on, as far as the part goes, one at a time. A row that ends with a word leaves none, which is told
@@ -53,16 +52,51 @@ fn put_last(w: u16, part: &mut [u8])
     store_words(&pixels, part);
 }
 
-// The weights of a byte's bits, the highest first, each with the weight 0 of its pixel's high byte.
-const WEIGHTS: [u8; 16] = [128, 0, 64, 0, 32, 0, 16, 0, 8, 0, 4, 0, 2, 0, 1, 0];
+// The weights of a byte's bits, the highest first, each with the weight 0 of its pixel's high byte; and all of them once more.
+const TWICE: [u8; 32] = [
+    128,
+    0,
+    64,
+    0,
+    32,
+    0,
+    16,
+    0,
+    8,
+    0,
+    4,
+    0,
+    2,
+    0,
+    1,
+    0,
+    128,
+    0,
+    64,
+    0,
+    32,
+    0,
+    16,
+    0,
+    8,
+    0,
+    4,
+    0,
+    2,
+    0,
+    1,
+    0,
+];
 
-// The weights, kept in memory as for pixels of 16 bits.
-fn kept_weights(k: usize) -> [u8; 16]
-    requires { ⌜ k < 16 ⌝ }
+// The weights, out of one half or the other as for pixels of 16 bits. Made of those, byte by byte, they would be tested one by one.
+fn kept_weights(n: usize) -> [u8; 16]
     ensures { λ r. ⌜ r ≡ wordsToBytes (powers 8) ⌝ }
 {
-    let mut weights = WEIGHTS;
-    weights[k] = WEIGHTS[k];
+    let twice = TWICE;
+    let from = 16 * (n % 2);
+    let end = from + 16;
+    let mut weights = [0u8; 16];
+    copy(&twice[from..end], &mut weights);
     weights
 }
 

@@ -6,15 +6,16 @@ use mathlib.Core.List.{List, _∷_, _++_}
 use native.Mathlib.Nat.{zero-add, suc-add, add-comm}
 use native.Mathlib.Numerals.{add-one}
 use native.Mathlib.Omega.{arith}
-use borrow.Author.Tests.{ne-eqb, ltb-true, ltb-false}
-use lib.ListN.{length, getD, set, drop, length-map, List·getD-map}
-use lib.Seq.{sets}
+use borrow.Author.Tests.{ne-eqb, eqb-true, eqb-false, ltb-true, ltb-false}
+use lib.ListN.{length, getD, set, take, drop, length-map, List·getD-map}
+use lib.Seq.{sets, take-append-seam, drop-append-seam, take-length}
 use lib.Dec.{eqb, ltb}
 use lib.Pow.{pow-pos, pow-lt, shr-shr}
 use lib.Bits.{and-zero-r}
 use Rattle.units.specs.LittleEndian.{u16At}
 use Rattle.units.specs.Words.{words, wordsToBytes}
-use Rattle.units.specs.laws.Over.{sets-step, sets-past}
+use Rattle.units.specs.Over.{over}
+use Rattle.units.specs.laws.Over.{sets-step, sets-past, over-all}
 use Rattle.units.specs.laws.Stores.{bytes-append}
 use Rattle.units.specs.laws.Words.{words-step}
 use Rattle.packing.specs.Packing.{bits, wordBits}
@@ -115,3 +116,20 @@ module _ (b : List ℕ) (i : ℕ) where
     word-picked-bytes =
         let e : 8 ≤ 8 = omega arith in
         ap wordsToBytes halves ∙ rw (bytes-append (bits 8 high) (bits 8 low), bytes-picked 8 high e, bytes-picked 8 low e)
+
+-- Weights that stand twice: either half of them is the weights.
+pub either-half : (w old : List ℕ) (n k e : ℕ) → k ≡ length w * (n % 2) → e ≡ k + length w → length old ≡ length w
+    → over (take (e - k) (drop k (w ++ w))) old ≡ w
+either-half w old n k e at end room =
+    let l : e - k ≡ length w = omega arith in
+    let part : take (e - k) (drop k (w ++ w)) ≡ w = ap (λ (m : ℕ). take m (drop k (w ++ w))) l ∙ go (eqb (n % 2) 0) refl in
+    ap (λ (x : List ℕ). over x old) part ∙ over-all w old (sym room)
+  where
+    go : (b : Bool) → eqb (n % 2) 0 ≡ b → take (length w) (drop k (w ++ w)) ≡ w
+    go true even =
+        let z : k ≡ 0 = at ∙ ap (λ (m : ℕ). length w * m) (eqb-true (n % 2) 0 even) ∙ omega arith in
+        ap (λ (m : ℕ). take (length w) (drop m (w ++ w))) z ∙ take-append-seam w w
+    go false odd =
+        let o : n % 2 ≡ 1 = let h : n % 2 ≡ 0 → ⊥ = eqb-false (n % 2) 0 odd in omega arith in
+        let z : k ≡ length w = at ∙ ap (λ (m : ℕ). length w * m) o ∙ omega arith in
+        ap (λ (m : ℕ). take (length w) (drop m (w ++ w))) z ∙ ap (take (length w)) (drop-append-seam w w) ∙ take-length w

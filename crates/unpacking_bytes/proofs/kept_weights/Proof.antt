@@ -1,13 +1,27 @@
-use lib.Seq.{set-getD}
-use Rattle.packing.specs.Weights.{powers}
+use mathlib.Core.Path.{refl, _∙_}
+use lib.ListN.{replicate}
 use Rattle.units.specs.Words.{wordsToBytes}
+use Rattle.packing.specs.Weights.{powers}
+use Rattle.packing.specs.laws.Weights.{either-half}
 use borrow.Author.Needs.{needs}
 use Rattle.unpacking_bytes.proofs.kept_weights.Statement.{statement}
 use Rattle.unpacking_bytes.proofs.kept_weights.Tie as tie
 
 returns : tie.Need-returns
 unfolding powers wordsToBytes
-returns c = set-getD (wordsToBytes (powers 8)) (c .args .k) 0
+returns c =
+    let n = c .before .before .before .before .before .args .n in
+    c .before .copy .ensures ∙ either-half (wordsToBytes (powers 8)) (replicate 16 0) n _ _ refl refl refl
 
 pub kept-weights-spec : {M : Type 1} → statement M
-kept-weights-spec = tie.close (tie.spec (λ c. search needs) (λ c. search needs) returns)
+kept-weights-spec =
+    tie.close
+    (tie.spec
+    (λ c. search needs)
+    (λ c. search needs)
+    (λ c. search needs)
+    (λ c. search needs)
+    (λ c. search needs)
+    (λ c. search needs)
+    (λ c κs. search needs)
+    returns)
