@@ -13,7 +13,7 @@ use Rattle.layout.specs.Scanline.{pixelOffset}
 use Rattle.layout.specs.Chain.{Raster, sheetOf, headAt, readingAt}
 use Rattle.encode_answer.specs.Sizes.{mostWords, WriteNumbers, answerBy, outBy}
 use Rattle.transcode_parts.specs.Headers.{otherType}
-use Rattle.transcode_parts.specs.Rules.{typeRules, foundRules}
+use Rattle.transcode_parts.specs.Rules.{unmovedRules, foundRules}
 use Rattle.transcode.specs.File.{transcoded}
 
 -- one of the first k scanlines has what is looked for
@@ -41,7 +41,7 @@ lineRules r size room =
 unfoldable pub transcodeRejection : List ℕ → ℕ → ℕ
 transcodeRejection f room =
     let r = sheetOf f in
-    first (rulesTo22 f ++ (typeRules (r .dataType) ++ lineRules r (length (transcoded f)) room))
+    first (rulesTo22 f ++ (unmovedRules (r .dataType) ++ lineRules r (length (transcoded f)) room))
 
 -- the number of the rejection or 0, and the written length
 unfoldable pub transcoding : List ℕ → ℕ → WriteNumbers

@@ -14,7 +14,7 @@ ghost use Rattle.layout.specs.Scanline.{headOf};
 ghost use Rattle.layout.specs.Chain.{sheetOf, rasterOf};
 ghost use Rattle.encode_answer.specs.Sizes.{answerBy};
 ghost use Rattle.encode_answer.specs.Answer.{writeNumbers};
-ghost use Rattle.transcode_parts.specs.Rules.{typeRules};
+ghost use Rattle.transcode_parts.specs.Rules.{unmovedRules};
 ghost use Rattle.transcode.specs.File.{newLine, newLines};
 ghost use Rattle.transcode.specs.Transcoding.{lineRules, transcoding, outTranscoded};
 ghost use Rattle.transcode.specs.laws.Answer.{oldRow, newSize, Movable, Ready, IsSurvey, Surveyed, LineFits, IsWritten, LinesFit};
@@ -102,7 +102,7 @@ fn transcode_sheet(file: &[u8], l: RasterLayout, row: &mut [u16], out: &mut [u8]
 
 // 10 to 22, and 30 for a data type other than 1 and 9; or 0.
 fn file_rejection(file: &[u8]) -> u16
-    ensures { λ r. ⌜ r ≡ first (rulesTo22 (now (file .entry)) ++ typeRules (sheetOf (now (file .entry)) .dataType)) ⌝ }
+    ensures { λ r. ⌜ r ≡ first (rulesTo22 (now (file .entry)) ++ unmovedRules (sheetOf (now (file .entry)) .dataType)) ⌝ }
 {
     let number = rejection_to_22(file);
     if number != 0 {

@@ -8,8 +8,8 @@ use Rattle.units.specs.Rules.{Rule, rule}
 use Rattle.encode_answer.specs.Sizes.{sizeRules}
 
 -- a data type other than 1 and 9
-abbrev pub typeRules : ℕ → List Rule
-typeRules t = rule 30 (not (eqb t 1 || eqb t 9)) ∷ []
+abbrev pub unmovedRules : ℕ → List Rule
+unmovedRules t = rule 30 (not (eqb t 1 || eqb t 9)) ∷ []
 
 -- By what is found in the scanlines: one is refused, one starts partway, a new body is too long for a scanline header to count. For a new
 -- file of `size` bytes and an output of `room`.

@@ -8,7 +8,7 @@ ghost use Rattle.units.specs.Rules.{first};
 ghost use Rattle.encode_answer.specs.Sizes.{mostWords, answerBy};
 ghost use Rattle.encode_answer.specs.Answer.{writeNumbers};
 ghost use Rattle.transcode_parts.specs.Headers.{otherType, withType, fitted};
-ghost use Rattle.transcode_parts.specs.Rules.{typeRules, foundRules};
+ghost use Rattle.transcode_parts.specs.Rules.{unmovedRules, foundRules};
 use encode_answer::WriteAnswer;
 use encode_answer::answer_by_size;
 use encode_answer::rejected;
@@ -26,7 +26,7 @@ pub fn other_type(dtc: u16) -> u16
 
 // 30 for a data type other than 1 and 9, which has no other to be moved to; or 0.
 pub fn unmoved_type(dtc: u16) -> u16
-    ensures { λ r. ⌜ r ≡ first (typeRules dtc) ⌝ }
+    ensures { λ r. ⌜ r ≡ first (unmovedRules dtc) ⌝ }
 {
     if dtc == 1 {
         return 0;

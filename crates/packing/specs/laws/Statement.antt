@@ -10,7 +10,7 @@ use lib.Seq.{getD-append-add}
 use lib.Dec.{ltb}
 use lib.Pow.{pow-pos, shr-lt}
 use Rattle.units.specs.Over.{zeros}
-use Rattle.units.specs.laws.Below.{AllBelow}
+use Rattle.units.specs.laws.Below.{all-below}
 use Rattle.packing.specs.Packing.{packedCount, bits, wordBits}
 use Rattle.packing.specs.Statement.{BitsInPlace, bitAt, AllPacked, rowWords}
 use Rattle.packing.specs.laws.Bits.{length-bits}
@@ -58,16 +58,12 @@ zero-at zero i = refl
 zero-at (suc m) zero = refl
 zero-at (suc m) (suc i) = zero-at m i
 
-below-two : (row : List ℕ) → ((i : ℕ) → getD row i 0 < 2) → AllBelow 2 row
-below-two [] h = tt
-below-two (x ∷ r) h = (h 0, below-two r (λ i. h (suc i)))
-
 pub all-packed : AllPacked
 all-packed row h =
     let n = packedCount (length row) in
     let count : length (rowWords row) ≡ n = length-packed n row in
     let m = 16 * n - length row in
-    let all = bits-of-row row (below-two row h) in
+    let all = bits-of-row row (all-below 2 row h) in
     record {
       holds = omega (arith, count);
       fewest = λ k l. omega (arith, count);

@@ -15,7 +15,7 @@ use Rattle.header.specs.Rejections.{rulesTo22, rejectionTo22}
 use Rattle.header.specs.laws.Accepted.{accepted}
 use Rattle.layout.specs.Scanline.{pixelOffset}
 use Rattle.layout.specs.Chain.{sheetOf, headAt, readingAt}
-use Rattle.transcode_parts.specs.Rules.{typeRules}
+use Rattle.transcode_parts.specs.Rules.{unmovedRules}
 use Rattle.transcode.specs.File.{carriedHeader, transcoded}
 use Rattle.transcode.specs.Transcoding.{isRefused, isPartway, lineRules, transcodeRejection}
 use Rattle.transcode.specs.laws.Lines.{line-none}
@@ -41,8 +41,8 @@ unfolding transcodeRejection rejectionTo22
 given f room e =
     let r = sheetOf f in
     let behind = lineRules r (length (transcoded f)) room in
-    let parts = both-none (rulesTo22 f) (typeRules (r .dataType) ++ behind) tt e in
-    let rules = none-holds (typeRules (r .dataType) ++ behind) tt (parts .1) in
+    let parts = both-none (rulesTo22 f) (unmovedRules (r .dataType) ++ behind) tt e in
+    let rules = none-holds (unmovedRules (r .dataType) ++ behind) tt (parts .1) in
     let w = accepted f (parts .0) .limits in
     record {
       file = parts .0;

@@ -9,7 +9,7 @@ use lib.ListN.{length, replicate}
 use lib.Seq.{take-all}
 use Rattle.units.specs.Counts.{wordBytes}
 use Rattle.units.specs.Words.{words, wordsToBytes, wordCount}
-use Rattle.units.specs.laws.Below.{AllBelow, all-append, all-take, words-below}
+use Rattle.units.specs.laws.Below.{AllBelow, all-below, all-append, all-take, words-below}
 use Rattle.units.specs.laws.Words.{length-words, bytes-back}
 use Rattle.packing.specs.Packing.{wordBits, packedCount}
 use Rattle.packing.specs.laws.Bits.{wordBits-below}
@@ -37,15 +37,11 @@ unfolding codecOf
 levels t (inl e) b p = rw e (all-take 2 p (wordBits (words b)) (wordBits-below (words b)))
 levels t (inr e) b p = rw e (runs-below 0 (words b) (omega arith))
 
-below-all : (b : List ℕ) → IsBytes b → AllBelow 256 b
-below-all [] h = tt
-below-all (x ∷ b) h = (h 0, below-all b (λ i. h (suc i)))
-
 pub packed-back : (b : List ℕ) (p : ℕ) → IsBytes b → length b % 2 ≡ 0 → wordCount b .0 ≡ packedCount p → spareSet b p ≡ false
     → packedBody (packedPixels b p) ≡ b
 packed-back b p below whole count unset =
     let m = wordCount b .0 in
-    let w = words-back (words b) p (words-below b (below-all b below)) (length-words b ∙ count) unset in
+    let w = words-back (words b) p (words-below b (all-below 256 b below)) (length-words b ∙ count) unset in
     ap wordsToBytes (w ∙ sym (take-all m (words b) (omega (arith, length-words b))))
     ∙ bytes-back b m m (omega arith) below
     ∙ take-all (wordBytes m) b (omega arith)

@@ -14,7 +14,7 @@ use Rattle.layout.specs.Scanline.{headOf, pixelOffset, stepOf, readingOf}
 use Rattle.layout.specs.declared.RasterLayout.{RasterLayout}
 use Rattle.layout.specs.Chain.{Raster, sheetOf, rasterOf}
 use Rattle.encode_answer.specs.Sizes.{mostWords}
-use Rattle.transcode_parts.specs.Rules.{typeRules}
+use Rattle.transcode_parts.specs.Rules.{unmovedRules}
 use Rattle.transcode.specs.declared.LineSizes.{LineSizes}
 use Rattle.transcode.specs.declared.LineSurvey.{LineSurvey}
 use Rattle.transcode.specs.declared.Survey.{Survey}
@@ -69,6 +69,6 @@ pub record LinesFit (r : Raster) (out : List ℕ) : Type 0 where
 
 -- a file that no rule of its own rejects, its layout, and a row of its width
 pub record Movable (f : List ℕ) (l : RasterLayout) (row : List ℕ) : Type 0 where
-  pub accepted : first (rulesTo22 f ++ typeRules (sheetOf f .dataType)) ≡ 0
+  pub accepted : first (rulesTo22 f ++ unmovedRules (sheetOf f .dataType)) ≡ 0
   pub laid : rasterOf l f ≡ sheetOf f
   pub wide : length row ≡ l .ppl

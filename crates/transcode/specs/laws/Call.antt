@@ -10,7 +10,7 @@ use Rattle.layout.specs.Chain.{sheetOf}
 use Rattle.encode_answer.specs.declared.WriteAnswer.{WriteAnswer}
 use Rattle.encode_answer.specs.Answer.{writeNumbers}
 use Rattle.encode_answer.specs.laws.Call as call
-use Rattle.transcode_parts.specs.Rules.{typeRules}
+use Rattle.transcode_parts.specs.Rules.{unmovedRules}
 use Rattle.transcode.specs.File.{transcoded}
 use Rattle.transcode.specs.Transcoding.{lineRules, transcodeRejection, transcoding, outTranscoded}
 
@@ -20,13 +20,13 @@ module _ (f : List ℕ) (room : ℕ) where
   none e =
       let r = sheetOf f in
       let rules = lineRules r (length (transcoded f)) room in
-      none-holds rules tt (both-none (typeRules (r .dataType)) rules tt (both-none (rulesTo22 f) (typeRules (r .dataType) ++ rules) tt e .1) .1)
+      none-holds rules tt (both-none (unmovedRules (r .dataType)) rules tt (both-none (rulesTo22 f) (unmovedRules (r .dataType) ++ rules) tt e .1) .1)
 
   rejected-from : (transcodeRejection f room ≡ 0 → ⊥) → 10 ≤ transcodeRejection f room
   unfolding transcodeRejection
   rejected-from h =
       let r = sheetOf f in
-      first-from 10 (rulesTo22 f ++ (typeRules (r .dataType) ++ lineRules r (length (transcoded f)) room)) tt h
+      first-from 10 (rulesTo22 f ++ (unmovedRules (r .dataType) ++ lineRules r (length (transcoded f)) room)) tt h
 
   module _ (a : WriteAnswer) (e : writeNumbers a ≡ transcoding f room) where
     pub number-is : a .number ≡ transcodeRejection f room

@@ -23,7 +23,7 @@ use Rattle.encode_answer.specs.Sizes.{answerBy}
 use Rattle.encode_answer.specs.Answer.{writeNumbers}
 use Rattle.encode_answer.specs.laws.Call as call
 use Rattle.transcode_parts.specs.Headers.{otherType, withType}
-use Rattle.transcode_parts.specs.Rules.{typeRules}
+use Rattle.transcode_parts.specs.Rules.{unmovedRules}
 use Rattle.transcode.specs.File.{carriedHeader, newLines, transcoded}
 use Rattle.transcode.specs.Transcoding.{lineRules, transcodeRejection, transcoding, outTranscoded}
 use Rattle.transcode.specs.laws.Answer.{newSize, Movable, Ready, LinesFit}
@@ -41,19 +41,19 @@ pub record Carried (r : Raster) (f out : List ℕ) (a : WriteAnswer) (now : List
       → (let lines = newLines r (r .nol) in part ≡ lines ++ drop (length lines) (midOf (r .dataStart) (length now - r .dataStart) now))
       → Transcoded f out a (putMid (r .dataStart) (length now - r .dataStart) now part)
 
-module _ (f out : List ℕ) {n : ℕ} (number : n ≡ first (rulesTo22 f ++ typeRules (sheetOf f .dataType))) where
+module _ (f out : List ℕ) {n : ℕ} (number : n ≡ first (rulesTo22 f ++ unmovedRules (sheetOf f .dataType))) where
   abbrev r : Raster
   r = sheetOf f
 
   abbrev front : List Rule
-  front = rulesTo22 f ++ typeRules (r .dataType)
+  front = rulesTo22 f ++ unmovedRules (r .dataType)
 
   abbrev behind : List Rule
   behind = lineRules r (length (transcoded f)) (length out)
 
   rules-are : transcodeRejection f (length out) ≡ first (front ++ behind)
   unfolding transcodeRejection
-  rules-are = ap first (sym (append-assoc (rulesTo22 f) (typeRules (r .dataType)) behind))
+  rules-are = ap first (sym (append-assoc (rulesTo22 f) (unmovedRules (r .dataType)) behind))
 
   -- rejected by the file
   pub by-file : (n ≡ 0 → ⊥) → {a : WriteAnswer} → a ≡ record { number = n; size = nBytes 0 } → Transcoded f out a out
@@ -68,7 +68,7 @@ module _ (f out : List ℕ) {n : ℕ} (number : n ≡ first (rulesTo22 f ++ type
   module _ (none : n ≡ 0) where
     file-ok : rejectionTo22 f ≡ 0
     unfolding rejectionTo22
-    file-ok = both-none (rulesTo22 f) (typeRules (r .dataType)) tt (sym number ∙ none) .0
+    file-ok = both-none (rulesTo22 f) (unmovedRules (r .dataType)) tt (sym number ∙ none) .0
 
     a₀ : Accepted f
     a₀ = accepted f file-ok
@@ -155,7 +155,7 @@ module _ (f out : List ℕ) {n : ℕ} (number : n ≡ first (rulesTo22 f ++ type
               }
 
 -- The same of a layout that is the sheet's.
-pub width : (f : List ℕ) {n : ℕ} → n ≡ first (rulesTo22 f ++ typeRules (sheetOf f .dataType)) → n ≡ 0 → {l : RasterLayout} → rasterOf l f ≡ sheetOf f
+pub width : (f : List ℕ) {n : ℕ} → n ≡ first (rulesTo22 f ++ unmovedRules (sheetOf f .dataType)) → n ≡ 0 → {l : RasterLayout} → rasterOf l f ≡ sheetOf f
     → l .ppl ≤ 65535
 width f number none laid = rw (ap (λ (r : Raster). r .ppl) laid) (ppl-most f [] number none)
 

@@ -2,13 +2,18 @@
 use Prim.Native.Nat.{ℕ, zero, suc, _<_}
 use mathlib.Core.List.{List, [], _∷_, _++_}
 use native.Mathlib.Omega.{arith}
-use lib.ListN.{take, drop}
+use lib.ListN.{getD, take, drop}
 use Rattle.units.specs.Words.{words, wordsToBytes}
 
 -- every number of a list is below n
 abbrev pub AllBelow : ℕ → List ℕ → Type 0
 AllBelow n [] = Unit {0}
 AllBelow n (x ∷ xs) = (x < n) × AllBelow n xs
+
+-- place by place
+pub all-below : (n : ℕ) (xs : List ℕ) → ((i : ℕ) → getD xs i 0 < n) → AllBelow n xs
+all-below n [] h = tt
+all-below n (x ∷ xs) h = (h 0, all-below n xs (λ i. h (suc i)))
 
 pub all-append : (n : ℕ) (xs ys : List ℕ) → AllBelow n xs → AllBelow n ys → AllBelow n (xs ++ ys)
 all-append n [] ys h g = g

@@ -37,7 +37,7 @@ returns c =
     let b = s .args .body .now in
     let i = s .args .i in
     let w = s .args .weights .now in
-    let l : length (one .put-byte .last .1 .1 .0) ≡ 16 = ap length (one .put-byte .ensures) ∙ length-map w (pick (getD b (i + 1) 0)) ∙ ap length (s .pre .1 .0) in
+    let l : length (one .put-byte .last .1 .1 .0) ≡ 16 = ap length (one .put-byte .ensures) ∙ length-map w _ ∙ ap length (s .pre .1 .0) in
     both-put (s .args .part .now) (one .put-byte .last .1 .1 .0) (two .put-byte2 .last .1 .1 .0) 16 l
     ∙ (λ j. one .put-byte .ensures j ++ two .put-byte2 .ensures j)
     ∙ ap (λ (ws : List ℕ). picked (getD b (i + 1) 0) ws ++ picked (getD b i 0) ws) (s .pre .1 .0)
