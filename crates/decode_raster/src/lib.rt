@@ -17,6 +17,8 @@ use layout::RasterLayout;
 use layout::answer_of;
 use layout::one_if_good;
 use layout::sheet_layout;
+use numbering::line_number;
+use numbering::rollover_met;
 use slices::fill;
 
 // 0 where every scanline is good and 1 where not, or the number of the rejection; how many scanlines are good; and the
@@ -27,13 +29,14 @@ pub struct RasterAnswer {
     pub end: usize,
 }
 
-// Where the chain of scanlines stands: the next one's start, whether one before it is lost, how many are good, and the
-// status of the last one.
+// Where the chain of scanlines stands: the next one's start, whether one before it is lost, how many are good, the status of the last one,
+// and past line 65,536 its line number.
 pub struct Chain {
     pub at: usize,
     pub lost: bool,
     pub good: u32,
     pub status: u8,
+    pub rollover: u16,
 }
 
 // Reads the raster of a file: pixels of 16 bits, row after row, and a status for each scanline.
@@ -98,6 +101,7 @@ fn read_lines(bytes: &[u8], l: RasterLayout, pixels: &mut [u16], marks: &mut [u8
         lost: false,
         good: 0,
         status: 0,
+        rollover: 0,
     };
     let mut k = 0;
     while k < n {
@@ -127,14 +131,18 @@ fn read_line(bytes: &[u8], l: RasterLayout, chain: Chain, k: usize, row: &mut [u
             lost: true,
             good: chain.good,
             status: 9,
+            rollover: chain.rollover,
         };
     }
-    let number = (k + 1) as u16;
-    let line = read_scanline(l.scn, l.dtc, number, &bytes[at..], row);
+    let rest = &bytes[at..];
+    let rollover = rollover_met(chain.rollover, k, rest);
+    let number = line_number(rollover, k);
+    let line = read_scanline(l.scn, l.dtc, number, rest, row);
     Chain {
         at: at + line.used.0,
         lost: line.lost,
         good: chain.good + one_if_good(line.status),
         status: line.status,
+        rollover,
     }
 }

@@ -20,6 +20,8 @@ use layout::RasterLayout;
 use layout::answer_of;
 use layout::one_if_good;
 use layout::sheet_layout;
+use numbering::line_number;
+use numbering::rollover_met;
 use scan_scanline::body_start;
 use scan_scanline::is_regular;
 use scan_scanline::regular_size;
@@ -93,9 +95,12 @@ fn read_regular(bytes: &[u8], l: RasterLayout, pixels: &mut [u8], marks: &mut [u
     let start = body_start(l.scn);
     let n = if l.dtc == 2 { l.nol as usize } else { 0 };
     let mut at = l.start;
+    let mut rollover = 0;
     let mut k = 0;
     while k < n {
-        if !is_regular(l.scn, (k + 1) as u16, size, &bytes[at..]) {
+        let rest = &bytes[at..];
+        let met = rollover_met(rollover, k, rest);
+        if !is_regular(l.scn, line_number(met, k), size, rest) {
             break;
         }
         let from = k * width;
@@ -105,6 +110,7 @@ fn read_regular(bytes: &[u8], l: RasterLayout, pixels: &mut [u8], marks: &mut [u
         widen_words(&bytes[a..b], &mut pixels[from..to]);
         marks[k] = 0;
         at += size.0;
+        rollover = met;
         k += 1;
     }
     Chain {
@@ -112,6 +118,7 @@ fn read_regular(bytes: &[u8], l: RasterLayout, pixels: &mut [u8], marks: &mut [u
         lost: false,
         good: k as u32,
         status: 0,
+        rollover,
     }
 }
 
@@ -126,12 +133,15 @@ fn read_line(bytes: &[u8], l: RasterLayout, chain: Chain, k: usize, row: &mut [u
     ensures { λ r. ⌜ Stepped (rasterOf l (now (bytes .entry))) (asBytes (l .ppl)) k r (now (row .exit)) ⌝ }
 {
     let at = chain.at;
-    let number = (k + 1) as u16;
-    let line = read_scanline_bytes(l.scn, l.dtc, number, &bytes[at..], row);
+    let rest = &bytes[at..];
+    let rollover = rollover_met(chain.rollover, k, rest);
+    let number = line_number(rollover, k);
+    let line = read_scanline_bytes(l.scn, l.dtc, number, rest, row);
     Chain {
         at: at + line.used.0,
         lost: line.lost,
         good: chain.good + one_if_good(line.status),
         status: line.status,
+        rollover,
     }
 }

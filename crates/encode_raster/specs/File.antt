@@ -5,6 +5,7 @@ use mathlib.Core.List.{List, [], _∷_, _++_}
 use lib.Dec.{eqb}
 use Rattle.units.specs.Words.{wordsToBytes, wordCount}
 use Rattle.codec.specs.Table.{bodyBytes}
+use Rattle.numbering.specs.Numbering.{writtenNumber}
 use Rattle.encode_header.specs.Picture.{Picture, rowAt}
 use Rattle.encode_header.specs.Header.{headerBytes}
 
@@ -18,7 +19,7 @@ lineBytes t scn number row = cond (eqb scn 1) (lineHeader number (bodyBytes t sc
 -- the first k scanlines
 unfoldable pub linesOf : Picture → ℕ → List ℕ
 linesOf i zero = []
-linesOf i (suc k) = linesOf i k ++ lineBytes (i .dtc) (i .scn) (k + 1) (rowAt i k)
+linesOf i (suc k) = linesOf i k ++ lineBytes (i .dtc) (i .scn) (writtenNumber k) (rowAt i k)
 
 -- the whole file
 unfoldable pub fileBytes : Picture → List ℕ

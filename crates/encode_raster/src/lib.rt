@@ -29,6 +29,7 @@ use encode_header::header_size;
 use encode_header::write_header;
 use given::any_above;
 use given::field_rejection;
+use std::num::wrapping_add_u16;
 use units::Bytes;
 use units::bytes_to_words;
 use units::store_words;
@@ -123,7 +124,7 @@ fn line_head(scn: u8) -> Bytes
     if scn == 1 { Bytes(8) } else { Bytes(0) }
 }
 
-// Writes the scanlines one after the other.
+// Writes the scanlines one after the other. Past 65,535 the line number wraps to 0.
 fn write_lines(job: Job, pixels: &[u16], out: &mut [u8])
     requires { ⌜ Within job (now pixels) ⌝ }
     requires { ⌜ LinesFit (bare job (now pixels)) (job .nol) (now out) ⌝ }
@@ -132,13 +133,14 @@ fn write_lines(job: Job, pixels: &[u16], out: &mut [u8])
     let p = job.ppl as usize;
     let n = job.nol as usize;
     let mut at = 0;
+    let mut number = 1;
     let mut k = 0;
     while k < n {
         let from = k * p;
         let to = from + p;
-        let number = (k + 1) as u16;
         let size = write_line(job, number, &pixels[from..to], &mut out[at..]);
         at += size.0;
+        number = wrapping_add_u16(number, 1);
         k += 1;
     }
 }

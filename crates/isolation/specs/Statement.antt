@@ -8,8 +8,9 @@ use mathlib.Core.List.{List, []}
 use lib.ListN.{length, getD, take, drop}
 use Rattle.units.specs.Over.{zeros}
 use Rattle.units.specs.Rules.{first}
+use Rattle.numbering.specs.Numbering.{firstPast, wantedNumber}
 use Rattle.layout.specs.Scanline.{Reading, reading, unreached}
-use Rattle.layout.specs.Chain.{Raster, sheetOf, start, reached, headAt, bodyAt, numberOf, endOf}
+use Rattle.layout.specs.Chain.{Raster, sheetOf, start, reached, headAt, bodyAt, rolloverOf, endOf}
 use Rattle.layout.specs.Reading.{RasterNumbers, bufferRules, rasterRejection, rasterReading, rejectedRaster, pixelsAfter, marksAfter, countGood}
 
 -- byte i lies inside the body of a scanline, from the first to the last, that the chain reaches
@@ -37,8 +38,9 @@ pub record SameLine (p k : ℕ) (pixels₁ marks₁ pixels₂ marks₂ : List �
 -- What one reading that is not rejected gives: s is the raster that it reads, a its answer, and the buffers are as it leaves
 -- them. The data type, the rows' length and the number of scanlines are those of r, and so is which ones are reached.
 pub record OneReading (r s : Raster) (a : RasterNumbers) (pixels marks : List ℕ) : Type 0 where
-  -- every reached scanline has the reading of its own header and body in this file
-  pub own : (k : ℕ) → k < r .nol → reached r k ≡ true → LineIs (r .ppl) k pixels marks (reading (r .dataType) (r .ppl) (numberOf r k) (headAt s k) (bodyAt s k))
+  -- Every reached scanline has the reading of its own header and body in this file. The number that it must have is settled by k and, from
+  -- line 65,536 on, by the number of that line, `rolloverOf s`, which counts as part of every later line's header.
+  pub own : (k : ℕ) → k < r .nol → reached r k ≡ true → LineIs (r .ppl) k pixels marks (reading (r .dataType) (r .ppl) (wantedNumber (rolloverOf s) k) (headAt s k) (bodyAt s k))
   -- one that is not reached has 9 and zeros
   pub rest : (k : ℕ) → k < r .nol → reached r k ≡ false → LineIs (r .ppl) k pixels marks (unreached (r .ppl))
   -- where the status is above 0 the row is all zeros
@@ -57,6 +59,8 @@ pub record TwoReadings (r s : Raster) (a₁ : RasterNumbers) (pixels₁ marks₁
   pub same-reached : (k : ℕ) → k ≤ r .nol → reached s k ≡ reached r k
   pub same-start : (k : ℕ) → k ≤ r .nol → start s k ≡ start r k
   pub same-end : a₂ .end ≡ a₁ .end
+  -- the number of line 65,536, where it is reached
+  pub same-rollover : firstPast < r .nol → reached r firstPast ≡ true → rolloverOf s ≡ rolloverOf r
   -- a scanline whose body has the same bytes in both files has the same status and row in both, and so has one without a body
   pub same-line : (k : ℕ) → k < r .nol → bodyAt s k ≡ bodyAt r k → SameLine (r .ppl) k pixels₁ marks₁ pixels₂ marks₂
   pub no-body : (k : ℕ) → k < r .nol → bodyAt r k ≡ [] → SameLine (r .ppl) k pixels₁ marks₁ pixels₂ marks₂

@@ -7,6 +7,7 @@ use lib.ListN.{drop}
 use lib.Dec.{eqb}
 use Rattle.units.specs.Counts.{bytesOfBlocks}
 use Rattle.fields.specs.Fields.{fieldsOf, headerBlocks}
+use Rattle.numbering.specs.Numbering.{firstPast, wantedNumber, storedNumber}
 use Rattle.layout.specs.declared.RasterLayout.{RasterLayout}
 use Rattle.layout.specs.Scanline.{Reading, Step, headOf, bodyOf, stepOf, readingOf, unreached}
 
@@ -61,9 +62,13 @@ headAt r k = headOf (from r (start r k))
 abbrev pub bodyAt : Raster → ℕ → List ℕ
 bodyAt r k = cond (reached r k) (bodyOf (from r (start r k))) []
 
+-- the number in line 65,536, which decides where the line numbers roll over to (paper 02, P6)
+unfoldable pub rolloverOf : Raster → ℕ
+rolloverOf r = storedNumber (headAt r firstPast)
+
 -- the line number that scanline k must have
 abbrev pub numberOf : Raster → ℕ → ℕ
-numberOf r k = k + 1
+numberOf r k = wantedNumber (rolloverOf r) k
 
 -- the reading of scanline k
 unfoldable pub readingAt : Raster → ℕ → Reading

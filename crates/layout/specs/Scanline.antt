@@ -13,6 +13,7 @@ use Rattle.units.specs.Over.{zeros}
 use Rattle.units.specs.Rules.{Rule, rule, first}
 use Rattle.codec.specs.Codec.{rowOf}
 use Rattle.codec.specs.Table.{bodyRules, bodyPixels, bodyExtent}
+use Rattle.numbering.specs.Numbering.{storedNumber}
 
 -- The scanline header, four words, as far as it lies in the file: identifier, words to follow W, line number, pixel offset.
 unfoldable pub headOf : List ℕ → List ℕ
@@ -50,7 +51,7 @@ bodyWidth p hd = p - pixelOffset hd
 
 -- the line number, and an offset beyond the row
 abbrev pub placementRules : ℕ → ℕ → List ℕ → List Rule
-placementRules p number hd = rule 4 (not (eqb (u16At hd 4) number)) ∷ rule 5 (ltb p (pixelOffset hd)) ∷ []
+placementRules p number hd = rule 4 (not (eqb (storedNumber hd) number)) ∷ rule 5 (ltb p (pixelOffset hd)) ∷ []
 
 -- the order of the statuses with headers
 abbrev pub statusRules : ℕ → ℕ → ℕ → List ℕ → List ℕ → List Rule

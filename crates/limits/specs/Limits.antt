@@ -21,7 +21,7 @@ abbrev pub mostPixels : ℕ
 mostPixels = 65535
 
 abbrev pub mostLines : ℕ
-mostLines = 65535
+mostLines = 1000000
 
 abbrev pub pplRules : ℕ → List Rule
 pplRules ppl = rule 19 (eqb ppl 0) ∷ rule 19 (ltb mostPixels ppl) ∷ []

@@ -78,7 +78,7 @@ pub fn ppl_rejection(ppl: u32) -> u16
 pub fn nol_rejection(nol: u32) -> u16
     ensures { λ r. ⌜ r ≡ first (nolRules nol) ⌝ }
 {
-    zero_or_above(nol, 65535, 20)
+    zero_or_above(nol, 1000000, 20)
 }
 
 // The number of the rejection where n is above the highest that is allowed, or 0.

@@ -27,6 +27,8 @@ use encode_body::write_body;
 use header::rejection_to_22;
 use layout::RasterLayout;
 use layout::sheet_layout;
+use numbering::line_number;
+use numbering::rollover_met;
 use scan_scanline::body_start;
 use scan_scanline::first_column;
 use transcode_parts::answer_by_lines;
@@ -133,13 +135,15 @@ fn survey_lines(bytes: &[u8], l: RasterLayout, row: &mut [u16]) -> Survey
     let head = body_start(l.scn);
     let n = l.nol as usize;
     let mut at = l.start;
+    let mut rollover = 0;
     let mut partway = false;
     let mut long = false;
     let mut size = 0;
     let mut k = 0;
     while k < n {
-        let number = (k + 1) as u16;
-        let line = survey_line(&bytes[at..], l, number, to, row);
+        let rest = &bytes[at..];
+        rollover = rollover_met(rollover, k, rest);
+        let line = survey_line(rest, l, line_number(rollover, k), to, row);
         if line.status != 0 {
             return Survey {
                 refused: true,
@@ -197,11 +201,14 @@ fn write_lines(bytes: &[u8], l: RasterLayout, row: &mut [u16], out: &mut [u8])
     let to = other_type(l.dtc);
     let n = l.nol as usize;
     let mut from = l.start;
+    let mut rollover = 0;
     let mut at = 0;
     let mut k = 0;
     while k < n {
-        let number = (k + 1) as u16;
-        let line = write_line(&bytes[from..], l, number, to, row, &mut out[at..]);
+        let rest = &bytes[from..];
+        rollover = rollover_met(rollover, k, rest);
+        let number = line_number(rollover, k);
+        let line = write_line(rest, l, number, to, row, &mut out[at..]);
         from += line.used.0;
         at += line.size.0;
         k += 1;

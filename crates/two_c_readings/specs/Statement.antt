@@ -12,8 +12,9 @@ use Rattle.units.specs.LittleEndian.{u32At}
 use Rattle.units.specs.Over.{zeros}
 use Rattle.units.specs.Rules.{rule, first}
 use Rattle.units.specs.Words.{wordsToBytes}
+use Rattle.numbering.specs.Numbering.{firstPast, wantedNumber}
 use Rattle.layout.specs.Scanline.{Reading, reading, unreached}
-use Rattle.layout.specs.Chain.{Raster, sheetOf, start, reached, headAt, bodyAt, numberOf, endOf}
+use Rattle.layout.specs.Chain.{Raster, sheetOf, start, reached, headAt, bodyAt, rolloverOf, endOf}
 use Rattle.layout.specs.Reading.{countGood}
 use Rattle.layout.specs.PixelBytes.{byteBufferRules}
 use Rattle.isolation.specs.Statement.{ChangedInBodies}
@@ -44,7 +45,7 @@ pub record SameByteLine (p k : ℕ) (c₁ c₂ : Outcome) : Type 0 where
 -- What one call that is not rejected gives; s is the raster that it reads. The data type, the rows' length and the number of
 -- scanlines are those of r, and so is which ones are reached.
 pub record OneCall (r s : Raster) (c : Outcome) : Type 0 where
-  pub own : (k : ℕ) → k < r .nol → reached r k ≡ true → ByteLineIs (r .ppl) k c (reading (r .dataType) (r .ppl) (numberOf r k) (headAt s k) (bodyAt s k))
+  pub own : (k : ℕ) → k < r .nol → reached r k ≡ true → ByteLineIs (r .ppl) k c (reading (r .dataType) (r .ppl) (wantedNumber (rolloverOf s) k) (headAt s k) (bodyAt s k))
   pub rest : (k : ℕ) → k < r .nol → reached r k ≡ false → ByteLineIs (r .ppl) k c (unreached (r .ppl))
   pub blank : (k : ℕ) → k < r .nol → (getD (c .marks) k 0 ≡ 0 → ⊥) → byteRow (r .ppl) k (c .pixels) ≡ zeros (wordBytes (r .ppl))
   pub end : endIn (c .answer) ≡ endOf s
@@ -59,6 +60,7 @@ pub record TwoCalls (r s : Raster) (c₁ c₂ : Outcome) : Type 0 where
   pub same-reached : (k : ℕ) → k ≤ r .nol → reached s k ≡ reached r k
   pub same-start : (k : ℕ) → k ≤ r .nol → start s k ≡ start r k
   pub same-end : endIn (c₂ .answer) ≡ endIn (c₁ .answer)
+  pub same-rollover : firstPast < r .nol → reached r firstPast ≡ true → rolloverOf s ≡ rolloverOf r
   pub same-line : (k : ℕ) → k < r .nol → bodyAt s k ≡ bodyAt r k → SameByteLine (r .ppl) k c₁ c₂
   pub no-body : (k : ℕ) → k < r .nol → bodyAt r k ≡ [] → SameByteLine (r .ppl) k c₁ c₂
 

@@ -1,4 +1,4 @@
-use Prim.Native.Nat.{ℕ, _+_, _-_, _≤_}
+use Prim.Native.Nat.{ℕ, _-_, _≤_}
 use mathlib.Core.Path.{_∙_, ap, subst}
 use native.Mathlib.Omega.{arith}
 use lib.ListN.{length, take, drop}
@@ -20,19 +20,27 @@ at-within c =
     let s = c .before .before .before in
     omega (arith, s .pre .1 .1 .0 .at, start-within (rasterOf (s .args .l) (s .args .bytes .now)) (s .pre .0) (s .args .k))
 
+-- what is known where the scanline was read
+abbrev kept : tie.After-read-scanline → tie.Else1
+kept c = c .before .before .before .before .before
+
+abbrev started : tie.After-read-scanline → tie.Start
+started c = kept c .before .before .before
+
 -- The scanline read there, for a row of the raster's length.
 line-read : (c : tie.After-read-scanline)
-    → let s = c .before .before .before .before .before .before in
+    → let s = started c in
     let rest = take (length (s .args .bytes .now) - s .args .chain .at) (drop (s .args .chain .at) (s .args .bytes .now)) in
     IsLine (stepOf (s .args .l .scn) (s .args .l .dtc) (s .args .l .ppl) rest)
-    (readingOf (s .args .l .scn) (s .args .l .dtc) (s .args .l .ppl) (s .args .k + 1) rest)
+    (readingOf (s .args .l .scn) (s .args .l .dtc) (s .args .l .ppl) (c .before .before .line-number .result) rest)
     (c .read-scanline .result) (c .read-scanline .last .1 .1 .1 .1 .0)
 line-read c =
-    let s = c .before .before .before .before .before .before in
+    let s = started c in
     let rest = take (length (s .args .bytes .now) - s .args .chain .at) (drop (s .args .chain .at) (s .args .bytes .now)) in
     subst
     (λ (p : ℕ).
-    IsLine (stepOf (s .args .l .scn) (s .args .l .dtc) p rest) (readingOf (s .args .l .scn) (s .args .l .dtc) p (s .args .k + 1) rest)
+    IsLine (stepOf (s .args .l .scn) (s .args .l .dtc) p rest)
+    (readingOf (s .args .l .scn) (s .args .l .dtc) p (c .before .before .line-number .result) rest)
     (c .read-scanline .result) (c .read-scanline .last .1 .1 .1 .1 .0))
     (s .pre .1 .1 .1 .1)
     (c .read-scanline .ensures)
@@ -45,26 +53,26 @@ returns c =
     step-lost (rasterOf (a .l) (a .bytes .now)) (asPixels (a .l .ppl)) (a .k) (a .chain) (s .pre .1 .1 .0) (f .before .before .if1 .taken) (f .fill .last .0)
     (f .fill .ensures ∙ ap zeros (s .pre .1 .1 .1 .1))
 
-sub-read-scanline : tie.Need-sub-read-scanline
-sub-read-scanline c = omega (arith, at-within c)
+sub-rest : tie.Need-sub-rest
+sub-rest c = omega (arith, at-within c)
 
-part-read-scanline-start : tie.Need-part-read-scanline-start
-part-read-scanline-start c = omega (arith, at-within c)
+part-rest-start : tie.Need-part-rest-start
+part-rest-start c = omega (arith, at-within c)
 
-add-t13 : tie.Need-add-t13
-add-t13 c =
+add-t16 : tie.Need-add-t16
+add-t16 c =
     let y = c .before .before .before in
-    let e = y .before .before .before in
-    let s = e .before .before .before in
+    let s = started y in
     omega (
       arith,
-      next-within (rasterOf (s .args .l) (s .args .bytes .now)) (s .args .chain .at) (s .args .k + 1) (y .read-scanline .result) (at-within e) (scan-of (line-read y)),
+      next-within (rasterOf (s .args .l) (s .args .bytes .now)) (s .args .chain .at) (y .before .before .line-number .result) (y .read-scanline .result)
+          (at-within (kept y)) (scan-of (line-read y)),
     )
 
-add-t20 : tie.Need-add-t20
-add-t20 c =
+add-t21 : tie.Need-add-t21
+add-t21 c =
     let y = c .before .before .before .before .before in
-    let s = y .before .before .before .before .before .before in
+    let s = started y in
     omega (
       arith,
       s .pre .1 .1 .0 .good,
@@ -76,10 +84,11 @@ add-t20 c =
 returns-2 : tie.Need-returns-2
 returns-2 c =
     let y = c .before .before .before .before .before in
-    let e = y .before .before .before in
-    let s = e .before .before .before in
-    step-on (rasterOf (s .args .l) (s .args .bytes .now)) (asPixels (s .args .l .ppl)) (s .args .k) (s .args .chain) (s .pre .1 .1 .0) (e .if1 .left)
-    (y .read-scanline .result) (y .read-scanline .last .1 .1 .1 .1 .0) (c .before .one-if-good .result) (scan-of (line-read y)) (line-read y .row-is) (c .before .one-if-good .ensures)
+    let n = y .before .before in
+    let s = started y in
+    step-on (rasterOf (s .args .l) (s .args .bytes .now)) (asPixels (s .args .l .ppl)) (s .args .k) (s .args .chain) (s .pre .1 .1 .0) (kept y .if1 .left)
+    (y .read-scanline .result) (y .read-scanline .last .1 .1 .1 .1 .0) (c .before .one-if-good .result) (n .before .rollover-met .ensures)
+    (n .line-number .ensures) (scan-of (line-read y)) (line-read y .row-is) (c .before .one-if-good .ensures)
 
 pub read-line-spec : {M : Type 1} → statement M
 read-line-spec =
@@ -88,14 +97,14 @@ read-line-spec =
     (λ c κs. search needs)
     (λ c. search needs)
     returns
-    (λ c. search needs)
-    (λ c. search needs)
-    sub-read-scanline
-    part-read-scanline-start
+    sub-rest
+    part-rest-start
     (λ c. search needs)
     (λ c κs. search needs)
-    add-t13
     (λ c κs. search needs)
-    add-t20
+    (λ c κs. search needs)
+    add-t16
+    (λ c κs. search needs)
+    add-t21
     (λ c. search needs)
     returns-2)

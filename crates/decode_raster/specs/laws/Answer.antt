@@ -12,6 +12,7 @@ use Rattle.units.specs.Words.{wordsToBytes}
 use Rattle.units.specs.laws.Stores.{length-bytes, bytes-append, zero-bytes}
 use Rattle.limits.specs.Limits.{mostLines}
 use Rattle.layout.specs.Chain.{Raster, start, reached, readingAt, goodCount}
+use Rattle.layout.specs.laws.Numbering.{RolloverKnown}
 use Rattle.decode_raster.specs.declared.Chain.{Chain}
 
 -- A way to store rows of p pixels: what a list of pixels is in the buffer, and the places that a row takes there.
@@ -58,6 +59,7 @@ pub record ChainAt (r : Raster) (k : ℕ) (c : Chain) : Type 0 where
   pub at : c .at ≡ start r k
   pub lost : c .lost ≡ not (reached r k)
   pub good : c .good ≡ goodCount r k
+  pub rollover : RolloverKnown r k (c .rollover)
 
 -- the chain after scanline k, with its status and its row
 pub record Stepped (r : Raster) (s : Storing (r .ppl)) (k : ℕ) (c : Chain) (row : List ℕ) : Type 0 where

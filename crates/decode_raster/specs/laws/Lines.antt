@@ -14,6 +14,7 @@ use Rattle.units.specs.Over.{zeros}
 use Rattle.layout.specs.Scanline.{Reading}
 use Rattle.layout.specs.Chain.{Raster, start, reached, readingAt, rows, statuses, oneIfGood, goodCount}
 use Rattle.layout.specs.laws.Chain.{reading-unreached, unreached-start, unreached-suc, length-reading, length-statuses, good-suc}
+use Rattle.layout.specs.laws.Numbering.{known-first, known-lost}
 use Rattle.decode_raster.specs.declared.Chain.{Chain}
 use Rattle.decode_raster.specs.laws.Answer.{Storing, Fits, ChainAt, Stepped}
 
@@ -27,12 +28,12 @@ pub record LinesAt (r : Raster) (s : Storing (r .ppl)) (pixels₀ marks₀ pixel
 
 -- before the first
 pub lines-first : (r : Raster) (s : Storing (r .ppl)) (pixels marks : List ℕ)
-    → LinesAt r s pixels marks pixels marks (record { at = r .dataStart; lost = false; good = 0; status = 0 }) 0
+    → LinesAt r s pixels marks pixels marks (record { at = r .dataStart; lost = false; good = 0; status = 0; rollover = 0 }) 0
 unfolding start reached goodCount rows statuses
 lines-first r s pixels marks =
     record {
       low = zero-le;
-      chain = record { at = refl; lost = refl; good = refl };
+      chain = record { at = refl; lost = refl; good = refl; rollover = known-first r 0 };
       pixels-is = rw (s .none, zero-mul (s .width));
       marks-is = refl;
       pixels-length = refl;
@@ -161,6 +162,7 @@ module _ (r : Raster) (s : Storing (r .ppl)) (pixels₀ marks₀ pixels marks : 
               at = now .chain .at ∙ sym (rest-start r k u m) ∙ ap (start r) all;
               lost = lost ∙ sym (ap not (ap (reached r) (sym all) ∙ rest-reached r k u m));
               good = now .chain .good ∙ sym (rest-good r k u m) ∙ ap (goodCount r) all;
+              rollover = known-lost r n (c .rollover) (ap (reached r) (sym all) ∙ rest-reached r k u m);
             };
         pixels-is =
             ap (λ (y : List ℕ). putMid (k * w) (n * w - k * w) y (zeros (n * w - k * w))) (now .pixels-is)

@@ -15,10 +15,12 @@ use Rattle.units.specs.Words.{wordsToBytes}
 use Rattle.units.specs.laws.Over.{over-all}
 use Rattle.units.specs.laws.Parts.{rest-is}
 use Rattle.units.specs.laws.Stores.{length-bytes}
+use Rattle.numbering.specs.Numbering.{wantedNumber, rolloverMet}
 use Rattle.layout.specs.Scanline.{Reading, stepOf, readingOf}
 use Rattle.layout.specs.Chain.{Raster, from, stepAt, start, reached, numberOf, readingAt, oneIfGood, goodCount}
 use Rattle.layout.specs.laws.Line.{used-within}
 use Rattle.layout.specs.laws.Chain.{start-suc, reached-suc, reading-reached, reading-unreached, unreached-start, unreached-suc, good-suc}
+use Rattle.layout.specs.laws.Numbering.{number-met, known-next, known-lost}
 use Rattle.scan_scanline.specs.declared.Scanline.{Scanline}
 use Rattle.scan_scanline.specs.Answer.{IsScan}
 use Rattle.decode_raster.specs.declared.Chain.{Chain}
@@ -47,39 +49,45 @@ one-most status = go (eqb status 0)
 
 module _ (r : Raster) (s : Storing (r .ppl)) (k : ℕ) (c : Chain) (h : ChainAt r k c) where
   pub step-lost : c .lost ≡ true → (row : List ℕ) → row ≡ s .image (zeros (r .ppl))
-      → Stepped r s k (record { at = c .at; lost = true; good = c .good; status = 9 }) row
+      → Stepped r s k (record { at = c .at; lost = true; good = c .good; status = 9; rollover = c .rollover }) row
   step-lost l row e =
       let u : reached r k ≡ false = not-true (reached r k) (sym (h .lost) ∙ l) in
       let x = reading-unreached r k u in
       record {
         chain =
-            subst⁻¹ (λ (i : ℕ). ChainAt r i (record { at = c .at; lost = true; good = c .good; status = 9 })) (add-one k)
+            subst⁻¹ (λ (i : ℕ). ChainAt r i (record { at = c .at; lost = true; good = c .good; status = 9; rollover = c .rollover })) (add-one k)
             (record {
               at = h .at ∙ sym (unreached-start r k u);
               lost = sym (ap not (unreached-suc r k u));
               good = h .good ∙ sym (good-suc r k ∙ ap (λ (y : Reading). goodCount r k + oneIfGood (y .status)) x ∙ add-zero (goodCount r k));
+              rollover = known-lost r _ (c .rollover) (unreached-suc r k u);
             });
         status = sym (ap (λ (y : Reading). y .status) x);
         row-is = e ∙ sym (ap (λ (y : Reading). s .image (y .row)) x);
       }
 
-  pub step-on : c .lost ≡ false → (l : Scanline) (row : List ℕ) (one : ℕ)
+  -- by the number that scanline k must have
+  pub step-on : c .lost ≡ false → (l : Scanline) (row : List ℕ) (one : ℕ) {rollover number : ℕ}
+      → rollover ≡ rolloverMet (c .rollover) k (take (length (r .bytes) - c .at) (from r (c .at))) → number ≡ wantedNumber rollover k
       → IsScan (stepOf (r .scn) (r .dataType) (r .ppl) (take (length (r .bytes) - c .at) (from r (c .at))))
-      (readingOf (r .scn) (r .dataType) (r .ppl) (k + 1) (take (length (r .bytes) - c .at) (from r (c .at)))) l
-      → row ≡ s .image (readingOf (r .scn) (r .dataType) (r .ppl) (k + 1) (take (length (r .bytes) - c .at) (from r (c .at))) .row)
+      (readingOf (r .scn) (r .dataType) (r .ppl) number (take (length (r .bytes) - c .at) (from r (c .at)))) l
+      → row ≡ s .image (readingOf (r .scn) (r .dataType) (r .ppl) number (take (length (r .bytes) - c .at) (from r (c .at))) .row)
       → one ≡ oneIfGood (l .status)
-      → Stepped r s k (record { at = c .at + l .used .0; lost = l .lost; good = c .good + one; status = l .status }) row
-  step-on kept l row one line stored counted =
+      → Stepped r s k (record { at = c .at + l .used .0; lost = l .lost; good = c .good + one; status = l .status; rollover = rollover }) row
+  step-on kept l row one {rollover} {number} met wanted line stored counted =
       let u : reached r k ≡ true = not-false (reached r k) (sym (h .lost) ∙ kept) in
       let x = reading-reached r k u in
       let rest : take (length (r .bytes) - c .at) (from r (c .at)) ≡ from r (start r k) =
       rest-is (r .bytes) (c .at) ∙ ap (from r) (h .at) in
+      let n : number ≡ numberOf r k =
+      wanted ∙ ap (λ (y : ℕ). wantedNumber y k) met ∙ number-met r k (c .rollover) (h .rollover) u rest in
       let there : IsScan (stepAt r (start r k)) (readingOf (r .scn) (r .dataType) (r .ppl) (numberOf r k) (from r (start r k))) l =
-      subst (λ (b : List ℕ). IsScan (stepOf (r .scn) (r .dataType) (r .ppl) b) (readingOf (r .scn) (r .dataType) (r .ppl) (k + 1) b) l) rest line in
+      subst (λ (m : ℕ). IsScan (stepAt r (start r k)) (readingOf (r .scn) (r .dataType) (r .ppl) m (from r (start r k))) l) n
+      (subst (λ (b : List ℕ). IsScan (stepOf (r .scn) (r .dataType) (r .ppl) b) (readingOf (r .scn) (r .dataType) (r .ppl) number b) l) rest line) in
       let y : l .status ≡ readingAt r k .status = there .status ∙ sym (ap (λ (z : Reading). z .status) x) in
       record {
         chain =
-            subst⁻¹ (λ (i : ℕ). ChainAt r i (record { at = c .at + l .used .0; lost = l .lost; good = c .good + one; status = l .status })) (add-one k)
+            subst⁻¹ (λ (i : ℕ). ChainAt r i (record { at = c .at + l .used .0; lost = l .lost; good = c .good + one; status = l .status; rollover = rollover })) (add-one k)
             (record {
               at = ap (λ (a : ℕ). a + l .used .0) (h .at) ∙ ap (λ (n : ℕ). start r k + n) (there .used) ∙ sym (start-suc r k);
               lost =
@@ -90,11 +98,12 @@ module _ (r : Raster) (s : Storing (r .ppl)) (k : ℕ) (c : Chain) (h : ChainAt 
                   ap (λ (g : ℕ). g + one) (h .good)
                   ∙ ap (λ (m : ℕ). goodCount r k + m) (counted ∙ ap oneIfGood y)
                   ∙ sym (good-suc r k);
+              rollover = λ past next. met ∙ known-next r k (c .rollover) (h .rollover) u rest past next;
             });
         status = y;
         row-is =
             stored
-            ∙ ap (λ (b : List ℕ). s .image (readingOf (r .scn) (r .dataType) (r .ppl) (k + 1) b .row)) rest
+            ∙ (λ i. s .image (readingOf (r .scn) (r .dataType) (r .ppl) (n i) (rest i) .row))
             ∙ sym (ap (λ (z : Reading). s .image (z .row)) x);
       }
     where

@@ -1,4 +1,4 @@
-use Prim.Native.Nat.{ℕ, _+_, _-_, _≤_}
+use Prim.Native.Nat.{ℕ, _-_, _≤_}
 use mathlib.Core.Path.{_≡_, _∙_, ap, subst}
 use native.Mathlib.Omega.{arith}
 use lib.ListN.{length, take, drop}
@@ -21,51 +21,60 @@ at-within c =
     let s = c .before .before in
     omega (arith, s .pre .1 .1 .0 .at, start-within (rasterOf (s .args .l) (s .args .bytes .now)) (s .pre .0) (s .args .k))
 
+-- what is known where the scanline was read
+abbrev kept : tie.After-read-scanline-bytes → tie.After-slice-known
+kept c = c .before .before .before .before .before
+
+abbrev started : tie.After-read-scanline-bytes → tie.Start
+started c = kept c .before .before
+
+abbrev number : tie.After-read-scanline-bytes → ℕ
+number c = c .before .before .line-number .result
+
 -- The scanline read there, for a row of the raster's length.
 abbrev Read : (c : tie.After-read-scanline-bytes) → Type 0
 Read c =
-    let s = c .before .before .before .before .before in
+    let s = started c in
     let rest = take (length (s .args .bytes .now) - s .args .chain .at) (drop (s .args .chain .at) (s .args .bytes .now)) in
     IsScan (stepOf (s .args .l .scn) (s .args .l .dtc) (s .args .l .ppl) rest)
-    (readingOf (s .args .l .scn) (s .args .l .dtc) (s .args .l .ppl) (s .args .k + 1) rest) (c .read-scanline-bytes .result)
+    (readingOf (s .args .l .scn) (s .args .l .dtc) (s .args .l .ppl) (number c) rest) (c .read-scanline-bytes .result)
     × (c .read-scanline-bytes .last .1 .1 .1 .1 .0
-    ≡ wordsToBytes (readingOf (s .args .l .scn) (s .args .l .dtc) (s .args .l .ppl) (s .args .k + 1) rest .row))
+    ≡ wordsToBytes (readingOf (s .args .l .scn) (s .args .l .dtc) (s .args .l .ppl) (number c) rest .row))
 
 line-read : (c : tie.After-read-scanline-bytes) → Read c
 line-read c =
-    let s = c .before .before .before .before .before in
+    let s = started c in
     let l = s .args .l in
     let old = s .args .row .now in
     let rest = take (length (s .args .bytes .now) - s .args .chain .at) (drop (s .args .chain .at) (s .args .bytes .now)) in
     let p : wordCount old .0 ≡ l .ppl = omega (arith, s .pre .1 .1 .1 .1 .1) in
-    let row = readingOf (l .scn) (l .dtc) (l .ppl) (s .args .k + 1) rest .row in (
-      subst (λ (n : ℕ). IsScan (stepOf (l .scn) (l .dtc) n rest) (readingOf (l .scn) (l .dtc) n (s .args .k + 1) rest) (c .read-scanline-bytes .result)) p
+    let row = readingOf (l .scn) (l .dtc) (l .ppl) (number c) rest .row in (
+      subst (λ (n : ℕ). IsScan (stepOf (l .scn) (l .dtc) n rest) (readingOf (l .scn) (l .dtc) n (number c) rest) (c .read-scanline-bytes .result)) p
           (c .read-scanline-bytes .ensures .0),
       c .read-scanline-bytes .ensures .1
-          ∙ ap (λ (n : ℕ). over (wordsToBytes (readingOf (l .scn) (l .dtc) n (s .args .k + 1) rest .row)) old) p
-          ∙ bytes-full row old (l .ppl) (length-row (l .scn) (l .dtc) (l .ppl) rest (s .args .k + 1)) (s .pre .1 .1 .1 .1 .1),
+          ∙ ap (λ (n : ℕ). over (wordsToBytes (readingOf (l .scn) (l .dtc) n (number c) rest .row)) old) p
+          ∙ bytes-full row old (l .ppl) (length-row (l .scn) (l .dtc) (l .ppl) rest (number c)) (s .pre .1 .1 .1 .1 .1),
     )
 
-sub-read-scanline-bytes : tie.Need-sub-read-scanline-bytes
-sub-read-scanline-bytes c = omega (arith, at-within c)
+sub-rest : tie.Need-sub-rest
+sub-rest c = omega (arith, at-within c)
 
-part-read-scanline-bytes-start : tie.Need-part-read-scanline-bytes-start
-part-read-scanline-bytes-start c = omega (arith, at-within c)
+part-rest-start : tie.Need-part-rest-start
+part-rest-start c = omega (arith, at-within c)
 
-add-t9 : tie.Need-add-t9
-add-t9 c =
+add-t12 : tie.Need-add-t12
+add-t12 c =
     let y = c .before .before .before in
-    let e = y .before .before .before in
-    let s = e .before .before in
+    let s = started y in
     omega (
       arith,
-      next-within (rasterOf (s .args .l) (s .args .bytes .now)) (s .args .chain .at) (s .args .k + 1) (y .read-scanline-bytes .result) (at-within e) (line-read y .0),
+      next-within (rasterOf (s .args .l) (s .args .bytes .now)) (s .args .chain .at) (number y) (y .read-scanline-bytes .result) (at-within (kept y)) (line-read y .0),
     )
 
-add-t16 : tie.Need-add-t16
-add-t16 c =
+add-t17 : tie.Need-add-t17
+add-t17 c =
     let y = c .before .before .before .before .before in
-    let s = y .before .before .before .before .before in
+    let s = started y in
     omega (
       arith,
       s .pre .1 .1 .0 .good,
@@ -77,23 +86,24 @@ add-t16 c =
 returns : tie.Need-returns
 returns c =
     let y = c .before .before .before .before .before in
-    let e = y .before .before .before in
-    let s = e .before .before in
+    let n = y .before .before in
+    let s = started y in
     step-on (rasterOf (s .args .l) (s .args .bytes .now)) (asBytes (s .args .l .ppl)) (s .args .k) (s .args .chain) (s .pre .1 .1 .0) (s .pre .1 .1 .1 .0)
-    (y .read-scanline-bytes .result) (y .read-scanline-bytes .last .1 .1 .1 .1 .0) (c .before .one-if-good .result) (line-read y .0) (line-read y .1) (c .before .one-if-good .ensures)
+    (y .read-scanline-bytes .result) (y .read-scanline-bytes .last .1 .1 .1 .1 .0) (c .before .one-if-good .result) (n .before .rollover-met .ensures)
+    (n .line-number .ensures) (line-read y .0) (line-read y .1) (c .before .one-if-good .ensures)
 
 pub read-line-spec : {M : Type 1} → statement M
 read-line-spec =
     tie.close
     (tie.spec
-    (λ c. search needs)
-    (λ c. search needs)
-    sub-read-scanline-bytes
-    part-read-scanline-bytes-start
+    sub-rest
+    part-rest-start
     (λ c. search needs)
     (λ c κs. search needs)
-    add-t9
     (λ c κs. search needs)
-    add-t16
+    (λ c κs. search needs)
+    add-t12
+    (λ c κs. search needs)
+    add-t17
     (λ c. search needs)
     returns)

@@ -13,6 +13,7 @@ use Rattle.units.specs.Counts.{wordBytes}
 use Rattle.units.specs.Over.{over}
 use Rattle.units.specs.Words.{wordsToBytes}
 use Rattle.units.specs.laws.Parts.{rest-is}
+use Rattle.numbering.specs.Numbering.{wantedNumber, rolloverMet}
 use Rattle.layout.specs.Chain.{Raster, rasterOf, from}
 use Rattle.layout.specs.Scanline.{stepOf, readingOf}
 use Rattle.layout.specs.laws.Chain.{start-within}
@@ -28,15 +29,17 @@ use Rattle.decode_raster_bytes.proofs.read_regular.Statement.{statement
 use Rattle.decode_raster_bytes.proofs.read_regular.Tie as tie
 
 -- the chain before scanline k, where all scanlines before it are good
-abbrev goodChain : ℕ → ℕ → Chain
-goodChain at k = record { at = at; lost = false; good = k; status = 0 }
+abbrev goodChain : ℕ → ℕ → ℕ → Chain
+goodChain at k rollover = record { at = at; lost = false; good = k; status = 0; rollover = rollover }
 
 -- one turn: scanline k is regular, and its body is stored as its row
-module _ (r : Raster) (pixels₀ marks₀ pixels marks : List ℕ) (at k : ℕ) (now : LinesAt r (asBytes (r .ppl)) pixels₀ marks₀ pixels marks (goodChain at k) k)
-    (more : k < r .nol) (room : Fits r (wordBytes (r .ppl)) (length pixels₀) (length marks₀)) (type : r .dataType ≡ 2)
-    (line : Regular (r .scn) (r .ppl) (k + 1) (take (length (r .bytes) - at) (from r at))) where
+module _ (r : Raster) (pixels₀ marks₀ pixels marks : List ℕ) (at k rollover : ℕ)
+    (now : LinesAt r (asBytes (r .ppl)) pixels₀ marks₀ pixels marks (goodChain at k rollover) k) (more : k < r .nol)
+    (room : Fits r (wordBytes (r .ppl)) (length pixels₀) (length marks₀)) (type : r .dataType ≡ 2) {met number : ℕ}
+    (meets : met ≡ rolloverMet rollover k (take (length (r .bytes) - at) (from r at))) (wanted : number ≡ wantedNumber met k)
+    (line : Regular (r .scn) (r .ppl) number (take (length (r .bytes) - at) (from r at))) where
   body-is : (start : ℕ) → start ≡ bodyStart (r .scn)
-      → take (at + start + r .ppl - (at + start)) (from r (at + start)) ≡ readingOf (r .scn) 2 (r .ppl) (k + 1) (take (length (r .bytes) - at) (from r at)) .row
+      → take (at + start + r .ppl - (at + start)) (from r (at + start)) ≡ readingOf (r .scn) 2 (r .ppl) number (take (length (r .bytes) - at) (from r at)) .row
   body-is start e =
       let p : at + start + r .ppl - (at + start) ≡ r .ppl = omega arith in
       ap (λ (n : ℕ). take n (from r (at + start))) p
@@ -45,33 +48,33 @@ module _ (r : Raster) (pixels₀ marks₀ pixels marks : List ℕ) (at k : ℕ) 
 
   stepped : (start : ℕ) → start ≡ bodyStart (r .scn)
       → (row old : List ℕ) → length old ≡ wordBytes (r .ppl) → row ≡ over (wordsToBytes (take (at + start + r .ppl - (at + start)) (from r (at + start)))) old
-      → Stepped r (asBytes (r .ppl)) k (goodChain (at + regularSize (r .scn) (r .ppl)) (k + 1)) row
+      → Stepped r (asBytes (r .ppl)) k (goodChain (at + regularSize (r .scn) (r .ppl)) (k + 1) met) row
   stepped start e row old full stored =
       let rest = take (length (r .bytes) - at) (from r at) in
-      step-on r (asBytes (r .ppl)) k (goodChain at k) (now .chain) refl (goodScan (regularSize (r .scn) (r .ppl))) row 1
-      (subst⁻¹ (λ (t : ℕ). IsScan (stepOf (r .scn) t (r .ppl) rest) (readingOf (r .scn) t (r .ppl) (k + 1) rest) (goodScan (regularSize (r .scn) (r .ppl)))) type (line .scan))
+      step-on r (asBytes (r .ppl)) k (goodChain at k rollover) (now .chain) refl (goodScan (regularSize (r .scn) (r .ppl))) row 1 meets wanted
+      (subst⁻¹ (λ (t : ℕ). IsScan (stepOf (r .scn) t (r .ppl) rest) (readingOf (r .scn) t (r .ppl) number rest) (goodScan (regularSize (r .scn) (r .ppl)))) type (line .scan))
       (stored
       ∙ ap (λ (x : List ℕ). over (wordsToBytes x) old) (body-is start e)
-      ∙ bytes-full (readingOf (r .scn) 2 (r .ppl) (k + 1) rest .row) old (r .ppl) (length-row (r .scn) 2 (r .ppl) rest (k + 1)) full
-      ∙ ap (λ (t : ℕ). wordsToBytes (readingOf (r .scn) t (r .ppl) (k + 1) rest .row)) (sym type))
+      ∙ bytes-full (readingOf (r .scn) 2 (r .ppl) number rest .row) old (r .ppl) (length-row (r .scn) 2 (r .ppl) rest number) full
+      ∙ ap (λ (t : ℕ). wordsToBytes (readingOf (r .scn) t (r .ppl) number rest .row)) (sym type))
       refl
 
   next : (width start size : ℕ) → width ≡ wordBytes (r .ppl) → start ≡ bodyStart (r .scn) → size ≡ regularSize (r .scn) (r .ppl)
       → (row : List ℕ)
       → row ≡ over (wordsToBytes (take (at + start + r .ppl - (at + start)) (from r (at + start)))) (midOf (k * width) (k * width + width - k * width) pixels)
-      → LinesAt r (asBytes (r .ppl)) pixels₀ marks₀ (putMid (k * width) (k * width + width - k * width) pixels row) (set marks k 0) (goodChain (at + size) (k + 1)) (k + 1)
+      → LinesAt r (asBytes (r .ppl)) pixels₀ marks₀ (putMid (k * width) (k * width + width - k * width) pixels row) (set marks k 0) (goodChain (at + size) (k + 1) met) (k + 1)
   next width start size w e z row stored =
       rw (w, z)
-      (lines-next r (asBytes (r .ppl)) pixels₀ marks₀ pixels marks (goodChain at k) k now more room (goodChain (at + regularSize (r .scn) (r .ppl)) (k + 1)) row
+      (lines-next r (asBytes (r .ppl)) pixels₀ marks₀ pixels marks (goodChain at k rollover) k now more room (goodChain (at + regularSize (r .scn) (r .ppl)) (k + 1) met) row
       (stepped start e row (midOf (k * width) (k * width + width - k * width) pixels)
-      (rw w (lent-length r (asBytes (r .ppl)) pixels₀ marks₀ pixels marks (goodChain at k) k now more room)) stored))
+      (rw w (lent-length r (asBytes (r .ppl)) pixels₀ marks₀ pixels marks (goodChain at k rollover) k now more room)) stored))
 
 abbrev Inv-loop : tie.InvT-loop
-Inv-loop bytes l pixels₀ marks₀ p width size start n at₀ k₀ pixels marks at k =
-    LinesAt (rasterOf l bytes) (asBytes (l .ppl)) pixels₀ marks₀ pixels marks (goodChain at k) k
+Inv-loop bytes l pixels₀ marks₀ p width size start n at₀ rollover₀ k₀ pixels marks at rollover k =
+    LinesAt (rasterOf l bytes) (asBytes (l .ppl)) pixels₀ marks₀ pixels marks (goodChain at k rollover) k
 
 abbrev μ-loop : tie.MeasureT-loop
-μ-loop bytes l pixels₀ marks₀ p width size start n at₀ k₀ pixels marks at k = n - k
+μ-loop bytes l pixels₀ marks₀ p width size start n at₀ rollover₀ k₀ pixels marks at rollover k = n - k
 
 -- the function's start, and what the code has for a row's bytes, where a body starts and a scanline's bytes
 abbrev started : tie.At-loop Inv-loop μ-loop → tie.Start Inv-loop μ-loop
@@ -112,17 +115,11 @@ at-within c =
     let s = started (c .before) in
     omega (arith, c .before .loop .inv .chain .at, start-within (rasterOf (s .args .l) (s .args .bytes .now)) (s .pre .starts) (c .before .loop .k))
 
-add-is-regular : tie.Need-add-is-regular Inv-loop μ-loop
-add-is-regular c = omega (arith, typed c, started (c .before) .pre .nol-most)
+part-rest-start : tie.Need-part-rest-start Inv-loop μ-loop
+part-rest-start c = omega (arith, at-within c)
 
-cast-is-regular : tie.Need-cast-is-regular Inv-loop μ-loop
-cast-is-regular c = omega (arith, typed c, started (c .before) .pre .nol-most)
-
-part-is-regular-start : tie.Need-part-is-regular-start Inv-loop μ-loop
-part-is-regular-start c = omega (arith, at-within c)
-
-part-is-regular-end : tie.Need-part-is-regular-end Inv-loop μ-loop
-part-is-regular-end c = omega (arith, at-within c)
+part-rest-end : tie.Need-part-rest-end Inv-loop μ-loop
+part-rest-end c = omega (arith, at-within c)
 
 -- row k has its place in the pixels
 room : (c : tie.In-loop Inv-loop μ-loop) → c .before .loop .k * width (c .before) + width (c .before) ≤ length (c .before .loop .pixels)
@@ -130,38 +127,45 @@ room c =
     let l = c .before .loop in
     let s = started (c .before) in
     subst⁻¹ (λ (w : ℕ). l .k * w + w ≤ length (l .pixels)) (width-is (c .before))
-    (row-fits (rasterOf (s .args .l) (s .args .bytes .now)) (asBytes (s .args .l .ppl)) (s .args .pixels .now) (s .args .marks .now) (l .pixels) (l .marks) (goodChain (l .at) (l .k)) (l .k)
+    (row-fits (rasterOf (s .args .l) (s .args .bytes .now)) (asBytes (s .args .l .ppl)) (s .args .pixels .now) (s .args .marks .now) (l .pixels) (l .marks) (goodChain (l .at) (l .k) (l .rollover)) (l .k)
     (l .inv) (typed c .1) (s .pre))
+
+-- where scanline k is looked at
+abbrev at-line : tie.Else2 Inv-loop μ-loop → tie.In-loop Inv-loop μ-loop
+at-line c = c .before .before .before .before .before
+
+abbrev number : tie.Else2 Inv-loop μ-loop → ℕ
+number c = c .before .before .line-number .result
 
 -- a scanline that passes the look is regular
 line : (c : tie.Else2 Inv-loop μ-loop)
-    → let h = c .before .before .before .before in
+    → let h = at-line c .before in
     let a = started h .args in
-    Regular (a .l .scn) (a .l .ppl) (h .loop .k + 1) (take (length (a .bytes .now) - h .loop .at) (drop (h .loop .at) (a .bytes .now)))
+    Regular (a .l .scn) (a .l .ppl) (number c) (take (length (a .bytes .now) - h .loop .at) (drop (h .loop .at) (a .bytes .now)))
 line c =
-    let h = c .before .before .before .before in
+    let h = at-line c .before in
     let a = started h .args in
     let rest = take (length (a .bytes .now) - h .loop .at) (drop (h .loop .at) (a .bytes .now)) in
-    regular (a .l .scn) (a .l .ppl) (h .loop .k + 1) rest
-    (ap (λ (n : ℕ). isRegular (a .l .scn) (h .loop .k + 1) n rest) (sym (size-is h))
+    regular (a .l .scn) (a .l .ppl) (number c) rest
+    (ap (λ (n : ℕ). isRegular (a .l .scn) (number c) n rest) (sym (size-is h))
     ∙ sym (c .before .is-regular .ensures)
     ∙ not-false (c .before .is-regular .result) (c .if2 .left))
 
 -- it ends within the bytes, and its pixels end before it does
 ends : (c : tie.Else2 Inv-loop μ-loop)
-    → let h = c .before .before .before .before in (h .loop .at + size h ≤ length (started h .args .bytes .now)) × (start h + started h .args .l .ppl ≤ size h)
+    → let h = at-line c .before in (h .loop .at + size h ≤ length (started h .args .bytes .now)) × (start h + started h .args .l .ppl ≤ size h)
 ends c =
-    let h = c .before .before .before .before in
+    let h = at-line c .before in
     let bytes = started h .args .bytes .now in (
-      omega (arith, size-is h, line c .within, ap length (rest-is bytes (h .loop .at)), length-drop (h .loop .at) bytes, at-within (c .before .before .before)),
+      omega (arith, size-is h, line c .within, ap length (rest-is bytes (h .loop .at)), length-drop (h .loop .at) bytes, at-within (at-line c)),
       omega (arith, size-is h, start-is h, line c .body),
     )
 
 mul-from : tie.Need-mul-from Inv-loop μ-loop
-mul-from c = omega (arith, room (c .before .before .before), c .before .before .before .before .loop .inv .pixels-length)
+mul-from c = omega (arith, room (at-line c), at-line c .before .loop .inv .pixels-length)
 
 add-to : tie.Need-add-to Inv-loop μ-loop
-add-to c = omega (arith, room (c .before .before .before), c .before .before .before .before .loop .inv .pixels-length)
+add-to c = omega (arith, room (at-line c), at-line c .before .loop .inv .pixels-length)
 
 add-a : tie.Need-add-a Inv-loop μ-loop
 add-a c = omega (arith, ends c)
@@ -176,14 +180,14 @@ part-widen-words-end : tie.Need-part-widen-words-end Inv-loop μ-loop
 part-widen-words-end c = omega (arith, ends c)
 
 part-widen-words-start-2 : tie.Need-part-widen-words-start-2 Inv-loop μ-loop
-part-widen-words-start-2 c = omega (arith, room (c .before .before .before .before))
+part-widen-words-start-2 c = omega (arith, room (at-line (c .before)))
 
 part-widen-words-end-2 : tie.Need-part-widen-words-end-2 Inv-loop μ-loop
-part-widen-words-end-2 c = omega (arith, room (c .before .before .before .before))
+part-widen-words-end-2 c = omega (arith, room (at-line (c .before)))
 
 slice-write-marks : tie.Need-slice-write-marks Inv-loop μ-loop
 slice-write-marks c =
-    let t = c .before .before .before .before .before .before .before .before in
+    let t = at-line (c .before .before .before .before .before) in
     omega (arith, typed t, t .before .loop .inv .marks-length, started (t .before) .pre .marks-fit)
 
 add-at : tie.Need-add-at Inv-loop μ-loop
@@ -191,25 +195,25 @@ add-at c = omega (arith, ends (c .before .before .before .before .before .before
 
 add-k : tie.Need-add-k Inv-loop μ-loop
 add-k c =
-    let t = c .before .before .before .before .before .before .before .before .before in
+    let t = at-line (c .before .before .before .before .before .before) in
     omega (arith, typed t, started (t .before) .pre .nol-most)
 
 loop-less : tie.Need-loop-less Inv-loop μ-loop
-loop-less c = omega (arith, c .before .before .before .before .before .before .before .before .before .loop-test .taken)
+loop-less c = omega (arith, at-line (c .before .before .before .before .before .before) .loop-test .taken)
 
 loop-again : tie.Need-loop-again Inv-loop μ-loop
 loop-again c =
     let y = c .before .before .before in
     let x = y .before .before .before in
-    let t = x .before .before .before in
+    let t = at-line x in
     let h = t .before in
     let l = h .loop in
     let s = started h in
-    next (rasterOf (s .args .l) (s .args .bytes .now)) (s .args .pixels .now) (s .args .marks .now) (l .pixels) (l .marks) (l .at) (l .k) (l .inv) (typed t .1) (s .pre) (typed t .0)
-    (line x) (width h) (start h) (size h) (width-is h) (start-is h) (size-is h) (y .widen-words .last .1 .0) (y .widen-words .ensures)
+    next (rasterOf (s .args .l) (s .args .bytes .now)) (s .args .pixels .now) (s .args .marks .now) (l .pixels) (l .marks) (l .at) (l .k) (l .rollover) (l .inv) (typed t .1) (s .pre) (typed t .0)
+    (x .before .before .before .rollover-met .ensures) (x .before .before .line-number .ensures) (line x) (width h) (start h) (size h) (width-is h) (start-is h) (size-is h) (y .widen-words .last .1 .0) (y .widen-words .ensures)
 
-cast-t36 : tie.Need-cast-t36 Inv-loop μ-loop
-cast-t36 c = omega (arith, c .before .loop .inv .low, started (c .before) .pre .nol-most)
+cast-t38 : tie.Need-cast-t38 Inv-loop μ-loop
+cast-t38 c = omega (arith, c .before .loop .inv .low, started (c .before) .pre .nol-most)
 
 pub read-regular-spec : {M : Type 1} → statement M
 read-regular-spec =
@@ -223,11 +227,11 @@ read-regular-spec =
     (λ c κs. search needs)
     (λ c. search needs)
     loop-holds
-    add-is-regular
-    cast-is-regular
     at-within
-    part-is-regular-start
-    part-is-regular-end
+    part-rest-start
+    part-rest-end
+    (λ c κs. search needs)
+    (λ c κs. search needs)
     (λ c κs. search needs)
     mul-from
     add-to
@@ -245,7 +249,7 @@ read-regular-spec =
     add-k
     loop-less
     loop-again
-    cast-t36
+    cast-t38
     (λ c. c .before .loop .inv .pixels-length)
     (λ c. c .before .loop .inv .marks-length)
     (λ c. c .before .loop .inv))

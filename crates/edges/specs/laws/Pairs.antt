@@ -15,6 +15,7 @@ use Rattle.units.specs.Words.{words, wordsToBytes}
 use Rattle.codec.specs.RunPixels.{runPixels, runTotal, runsFrom}
 use Rattle.codec.specs.Table.{codecOf, isDataType}
 use Rattle.header.specs.Rejections.{rejectionTo22, slotOccurs, sharesSlot}
+use Rattle.numbering.specs.Numbering.{wantedNumber}
 use Rattle.layout.specs.Scanline.{headOf, bodyOf, reading, isLost}
 use Rattle.layout.specs.Chain.{sheetOf, start, reached, readingAt, statuses, rows, goodCount}
 use Rattle.layout.specs.Reading.{rasterRejection, rasterReading, pixelsAfter, marksAfter}
@@ -53,5 +54,5 @@ covered-is f g =
     )
 
 pub all-pairs : AllPairs
-unfolding pairs blank computedPair whole ofThree ofPartway alike three held sameBytes isCovered blanked u16At u32At scan words wordsToBytes rejectionTo22 isDataType codecOf slotOccurs sharesSlot runPixels runTotal runsFrom headOf bodyOf reading isLost start reached readingAt statuses rows goodCount rasterRejection rasterReading pixelsAfter marksAfter
+unfolding pairs blank computedPair whole ofThree ofPartway alike three held sameBytes isCovered blanked u16At u32At scan words wordsToBytes rejectionTo22 isDataType codecOf slotOccurs sharesSlot runPixels runTotal runsFrom headOf bodyOf reading isLost wantedNumber start reached readingAt statuses rows goodCount rasterRejection rasterReading pixelsAfter marksAfter
 all-pairs = record { hold = refl; means = covered-is }

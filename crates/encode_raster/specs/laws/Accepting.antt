@@ -15,6 +15,7 @@ use Rattle.codec.specs.Table.{codecOf, bodyBytes}
 use Rattle.limits.specs.Limits.{limitRules}
 use Rattle.limits.specs.laws.Limits.{Within, within}
 use Rattle.encode_header.specs.declared.Job.{Job}
+use Rattle.numbering.specs.Numbering.{writtenNumber}
 use Rattle.encode_header.specs.Picture.{rowAt}
 use Rattle.encode_header.specs.Header.{tableArea, headerBytes, headerSize}
 use Rattle.encode_raster.specs.File.{lineBytes, linesOf, fileBytes}
@@ -55,7 +56,7 @@ module _ (j : Job) (table pixels : List ℕ) where
   pub lines-bare : (k : ℕ) → linesOf (jobPicture j table pixels) k ≡ linesOf (bare j pixels) k
   unfolding linesOf
   lines-bare zero = refl
-  lines-bare (suc k) = ap (λ (l : List ℕ). l ++ lineBytes (j .dtc) (j .scn) (k + 1) (rowAt (bare j pixels) k)) (lines-bare k)
+  lines-bare (suc k) = ap (λ (l : List ℕ). l ++ lineBytes (j .dtc) (j .scn) (writtenNumber k) (rowAt (bare j pixels) k)) (lines-bare k)
 
   long-bare : (k : ℕ) → anyLong (jobPicture j table pixels) k ≡ anyLong (bare j pixels) k
   unfolding anyLong

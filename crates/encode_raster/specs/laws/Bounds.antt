@@ -9,6 +9,7 @@ use lib.Dec.{eqb}
 use Rattle.units.specs.laws.Stores.{length-bytes}
 use Rattle.codec.specs.Table.{bodyBytes}
 use Rattle.encode_body.specs.laws.Most.{body-most}
+use Rattle.numbering.specs.Numbering.{writtenNumber}
 use Rattle.encode_header.specs.Picture.{Picture, rowAt}
 use Rattle.encode_raster.specs.File.{lineHeader, lineBytes, linesOf}
 use Rattle.encode_raster.specs.laws.Answer.{headSize}
@@ -33,8 +34,8 @@ pub length-next : (i : Picture) (k : ℕ)
     → length (linesOf i (suc k)) ≡ length (linesOf i k) + (headSize (i .scn) + length (bodyBytes (i .dtc) (i .scn) (rowAt i k)))
 unfolding linesOf
 length-next i k =
-    length-append (linesOf i k) (lineBytes (i .dtc) (i .scn) (k + 1) (rowAt i k))
-    ∙ ap (λ (n : ℕ). length (linesOf i k) + n) (length-line (i .dtc) (i .scn) (k + 1) (rowAt i k))
+    length-append (linesOf i k) (lineBytes (i .dtc) (i .scn) (writtenNumber k) (rowAt i k))
+    ∙ ap (λ (n : ℕ). length (linesOf i k) + n) (length-line (i .dtc) (i .scn) (writtenNumber k) (rowAt i k))
 
 -- no scanline is longer than this, with the most pixels that a row can have
 row-most : (i : Picture) (k : ℕ) → i .ppl ≤ 65535 → headSize (i .scn) + length (bodyBytes (i .dtc) (i .scn) (rowAt i k)) ≤ 262152

@@ -13,6 +13,7 @@ use borrow.Author.Tests.{eq-eqb, ltb-false}
 use borrow.Rule.Slice.PartMut.{midOf, putMid, same-len-mid}
 use Rattle.units.specs.Words.{wordCount}
 use Rattle.codec.specs.Table.{bodyBytes}
+use Rattle.numbering.specs.Numbering.{writtenNumber}
 use Rattle.encode_header.specs.Picture.{Picture, rowAt}
 use Rattle.encode_raster.specs.File.{lineBytes, linesOf}
 use Rattle.encode_raster.specs.Writing.{anyLong}
@@ -60,27 +61,27 @@ lines-first i out = record { low = zero-le; at-is = refl; out-is = refl; same = 
 abbrev lentRow : Picture → ℕ → List ℕ
 lentRow i k = take (k * i .ppl + i .ppl - k * i .ppl) (drop (k * i .ppl) (i .pixels))
 
--- what is known when scanline k is to be written
-pub record Turn (i : Picture) (out₀ out : List ℕ) (at k : ℕ) : Type 0 where
+-- what is known when scanline k is to be written, with this line number
+pub record Turn (i : Picture) (out₀ out : List ℕ) (at number k : ℕ) : Type 0 where
   pub at-within : at ≤ length out
   -- it fits the part that is lent for it
-  pub line-fits : LineFits (i .dtc) (i .scn) (k + 1) (lentRow i k) (midOf at (length out - at) out)
-  pub size-within : {size : ℕ} → size ≡ length (lineBytes (i .dtc) (i .scn) (k + 1) (lentRow i k)) → at + size ≤ length out
+  pub line-fits : LineFits (i .dtc) (i .scn) number (lentRow i k) (midOf at (length out - at) out)
+  pub size-within : {size : ℕ} → size ≡ length (lineBytes (i .dtc) (i .scn) number (lentRow i k)) → at + size ≤ length out
   -- one scanline more
   pub lines-next : {size : ℕ} {part : List ℕ}
-      → (size ≡ length (lineBytes (i .dtc) (i .scn) (k + 1) (lentRow i k)))
-      × (part ≡ lineBytes (i .dtc) (i .scn) (k + 1) (lentRow i k)
-      ++ drop (length (lineBytes (i .dtc) (i .scn) (k + 1) (lentRow i k))) (midOf at (length out - at) out))
+      → (size ≡ length (lineBytes (i .dtc) (i .scn) number (lentRow i k)))
+      × (part ≡ lineBytes (i .dtc) (i .scn) number (lentRow i k)
+      ++ drop (length (lineBytes (i .dtc) (i .scn) number (lentRow i k))) (midOf at (length out - at) out))
       → LinesAt i out₀ (putMid at (length out - at) out part) (at + size) (k + 1)
 
 module _ (i : Picture) (out₀ out : List ℕ) (at k : ℕ) (now : LinesAt i out₀ out at k) (more : k < i .nol) (fit : LinesFit i (i .nol) out₀) where
-  line-room : at + length (lineBytes (i .dtc) (i .scn) (k + 1) (rowAt i k)) ≤ length out
+  line-room : at + length (lineBytes (i .dtc) (i .scn) (writtenNumber k) (rowAt i k)) ≤ length out
   unfolding linesOf
   line-room =
       omega (
         arith,
         grows i (i .nol) (suc k) more,
-        length-append (linesOf i k) (lineBytes (i .dtc) (i .scn) (k + 1) (rowAt i k)),
+        length-append (linesOf i k) (lineBytes (i .dtc) (i .scn) (writtenNumber k) (rowAt i k)),
         now .at-is,
         now .same,
         fit .room,
@@ -89,27 +90,27 @@ module _ (i : Picture) (out₀ out : List ℕ) (at k : ℕ) (now : LinesAt i out
   tail-length : length (midOf at (length out - at) out) ≡ length out - at
   tail-length = ap length (tail-is at out) ∙ length-drop at out
 
-  line-fits : LineFits (i .dtc) (i .scn) (k + 1) (lentRow i k) (midOf at (length out - at) out)
+  line-fits : LineFits (i .dtc) (i .scn) (writtenNumber k) (lentRow i k) (midOf at (length out - at) out)
   line-fits =
-      subst⁻¹ (λ (r : List ℕ). LineFits (i .dtc) (i .scn) (k + 1) r (midOf at (length out - at) out)) (row-is k (i .ppl) (i .pixels))
+      subst⁻¹ (λ (r : List ℕ). LineFits (i .dtc) (i .scn) (writtenNumber k) r (midOf at (length out - at) out)) (row-is k (i .ppl) (i .pixels))
       (record {
         room = omega (arith, line-room, tail-length);
         counted = λ one. counted-each i (i .nol) k (rw (eq-eqb (i .scn) 1 one) at (fit .counted)) more;
       })
 
   lines-next : {size : ℕ} {part : List ℕ}
-      → (size ≡ length (lineBytes (i .dtc) (i .scn) (k + 1) (lentRow i k)))
-      × (part ≡ lineBytes (i .dtc) (i .scn) (k + 1) (lentRow i k)
-      ++ drop (length (lineBytes (i .dtc) (i .scn) (k + 1) (lentRow i k))) (midOf at (length out - at) out))
+      → (size ≡ length (lineBytes (i .dtc) (i .scn) (writtenNumber k) (lentRow i k)))
+      × (part ≡ lineBytes (i .dtc) (i .scn) (writtenNumber k) (lentRow i k)
+      ++ drop (length (lineBytes (i .dtc) (i .scn) (writtenNumber k) (lentRow i k))) (midOf at (length out - at) out))
       → LinesAt i out₀ (putMid at (length out - at) out part) (at + size) (k + 1)
   unfolding linesOf
   lines-next {size} {part} e =
-      let line = lineBytes (i .dtc) (i .scn) (k + 1) (rowAt i k) in
+      let line = lineBytes (i .dtc) (i .scn) (writtenNumber k) (rowAt i k) in
       let r = row-is k (i .ppl) (i .pixels) in
-      let s : size ≡ length line = e .0 ∙ ap (λ (x : List ℕ). length (lineBytes (i .dtc) (i .scn) (k + 1) x)) r in
+      let s : size ≡ length line = e .0 ∙ ap (λ (x : List ℕ). length (lineBytes (i .dtc) (i .scn) (writtenNumber k) x)) r in
       let p : part ≡ line ++ drop (length line) (midOf at (length out - at) out) =
       e .1
-      ∙ ap (λ (x : List ℕ). lineBytes (i .dtc) (i .scn) (k + 1) x ++ drop (length (lineBytes (i .dtc) (i .scn) (k + 1) x)) (midOf at (length out - at) out)) r in
+      ∙ ap (λ (x : List ℕ). lineBytes (i .dtc) (i .scn) (writtenNumber k) x ++ drop (length (lineBytes (i .dtc) (i .scn) (writtenNumber k) x)) (midOf at (length out - at) out)) r in
       let full : length part ≡ length (midOf at (length out - at) out) =
       omega (
         arith,
@@ -129,16 +130,18 @@ module _ (i : Picture) (out₀ out : List ℕ) (at k : ℕ) (now : LinesAt i out
         same = same-len-mid at (length out - at) out part full ∙ now .same;
       })
 
-  size-within : {size : ℕ} → size ≡ length (lineBytes (i .dtc) (i .scn) (k + 1) (lentRow i k)) → at + size ≤ length out
+  size-within : {size : ℕ} → size ≡ length (lineBytes (i .dtc) (i .scn) (writtenNumber k) (lentRow i k)) → at + size ≤ length out
   size-within e =
       omega (
         arith,
         line-room,
-        e ∙ ap (λ (x : List ℕ). length (lineBytes (i .dtc) (i .scn) (k + 1) x)) (row-is k (i .ppl) (i .pixels)),
+        e ∙ ap (λ (x : List ℕ). length (lineBytes (i .dtc) (i .scn) (writtenNumber k) x)) (row-is k (i .ppl) (i .pixels)),
       )
 
-  pub turn : Turn i out₀ out at k
-  turn = record { at-within = omega (arith, line-room); line-fits = line-fits; size-within = size-within; lines-next = lines-next }
+  pub turn : {number : ℕ} → number ≡ writtenNumber k → Turn i out₀ out at number k
+  turn e =
+      subst⁻¹ (λ (n : ℕ). Turn i out₀ out at n k) e
+      (record { at-within = omega (arith, line-room); line-fits = line-fits; size-within = size-within; lines-next = lines-next })
 
 -- all are written
 pub lines-done : (i : Picture) (n : ℕ) (out₀ out : List ℕ) (at k : ℕ) → LinesAt i out₀ out at k → k ≡ n

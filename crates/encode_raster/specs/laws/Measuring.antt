@@ -9,6 +9,7 @@ use lib.ListN.{length, take, drop}
 use lib.Dec.{ltb}
 use Rattle.units.specs.Counts.{nBytes, wordsOfBytes}
 use Rattle.codec.specs.Table.{bodyBytes}
+use Rattle.limits.specs.Limits.{mostPixels, mostLines}
 use Rattle.encode_header.specs.Picture.{Picture, rowAt}
 use Rattle.encode_raster.specs.File.{linesOf}
 use Rattle.encode_raster.specs.Writing.{anyLong}
@@ -43,7 +44,7 @@ measure-next i size long k now more {head} {body} {words} {long′} h b w l =
     })
 
 -- the sum fits
-pub measure-fits : (i : Picture) (size : ℕ) (long : Bool) (k : ℕ) → MeasuredAt i size long k → k < i .nol → i .ppl ≤ 65535 → i .nol ≤ 65535
+pub measure-fits : (i : Picture) (size : ℕ) (long : Bool) (k : ℕ) → MeasuredAt i size long k → k < i .nol → i .ppl ≤ mostPixels → i .nol ≤ mostLines
     → {head body : ℕ} → head ≡ headSize (i .scn)
     → body ≡ length (bodyBytes (i .dtc) (i .scn) (take (k * i .ppl + i .ppl - k * i .ppl) (drop (k * i .ppl) (i .pixels))))
     → size + (head + body) < 2 ^ 64

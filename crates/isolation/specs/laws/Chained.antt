@@ -1,7 +1,7 @@
 -- The chain of a raster with scanline headers.
 use Prim.Native.Nat.{ℕ, zero, suc, _+_, _≤_, _<_}
 use mathlib.Core.Path.{_≡_, refl, sym, _∙_}
-use mathlib.Core.Bool.{Bool, true, false, not, _&&_, false≢true}
+use mathlib.Core.Bool.{Bool, true, false, not, _&&_}
 use mathlib.Core.Logic.{inl, inr}
 use native.Mathlib.Omega.{arith}
 use lib.ListN.{length}
@@ -9,16 +9,10 @@ use lib.Dec.{ltb}
 use Rattle.units.specs.laws.Numbers.{below-next}
 use Rattle.layout.specs.Scanline.{reading, isLost}
 use Rattle.layout.specs.Chain.{Raster, from, start, reached, headAt, bodyAt, numberOf, readingAt}
-use Rattle.layout.specs.laws.Chain.{start-zero, start-suc, reached-suc}
+use Rattle.layout.specs.laws.Chain.{both, start-zero, start-suc, reached-suc}
 use Rattle.isolation.specs.Statement.{InBody}
 use Rattle.isolation.specs.laws.Headed.{usedOf, used-body}
 use borrow.Author.Tests.{ltb-true, ltb-false}
-
--- a scanline reached and not lost, as the next one's being reached says
-pub both : (a b : Bool) → (a && not b) ≡ true → (a ≡ true) × (b ≡ false)
-both true false h = (refl, refl)
-both true true h = (refl, sym h)
-both false b h = absurd (false≢true h)
 
 -- scanlines start one after the other
 module _ (r : Raster) where

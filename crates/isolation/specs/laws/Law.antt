@@ -8,11 +8,11 @@ use borrow.Author.Tests.{le-ltb, ne-eqb}
 use Rattle.units.specs.laws.Rules.{both-none}
 use Rattle.header.specs.Rejections.{rejectionTo22, rulesTo22}
 use Rattle.layout.specs.Scanline.{Reading}
-use Rattle.layout.specs.Chain.{Raster, sheetOf, start, reached, bodyAt, endOf}
+use Rattle.layout.specs.Chain.{Raster, sheetOf, start, reached, bodyAt, rolloverOf, endOf}
 use Rattle.layout.specs.Reading.{rasterRejection, bufferRules, rasterReading, pixelsAfter, marksAfter}
 use Rattle.isolation.specs.Statement.{ChangedInBodies, LineIs, SameLine, TwoReadings, bufferRejection, RejectedReading, Demand3}
 use Rattle.isolation.specs.laws.OneFile.{withBytes, line-is, one-reading, pixels-room, marks-room}
-use Rattle.isolation.specs.laws.TwoFiles.{same-sheet, rejection-is, same-starts, same-reaches, same-readings, also-none}
+use Rattle.isolation.specs.laws.TwoFiles.{same-sheet, rejection-is, same-starts, same-reaches, same-rollovers, same-readings, also-none}
 
 pub accepted-file : (f : List ℕ) (room lines : ℕ) → rasterRejection f room lines ≡ 0 → rejectionTo22 f ≡ 0
 unfolding rasterRejection rejectionTo22
@@ -56,6 +56,8 @@ two-readings f g pixels₁ marks₁ pixels₂ marks₂ one ok taken₁ changed t
       same-reached = λ k l. ap (λ (x : Raster). reached x k) sheet ∙ reaches k;
       same-start = λ k l. ap (λ (x : Raster). start x k) sheet ∙ starts k;
       same-end = second .end ∙ ap endOf sheet ∙ starts (r .nol) ∙ sym (first .end);
+      same-rollover =
+          λ l q. ap rolloverOf sheet ∙ same-rollovers r g one (changed .same-length) (changed .elsewhere) q;
       same-line = λ k l b. line k l (sym (ap (λ (x : Raster). bodyAt x k) sheet) ∙ b);
       no-body = λ k l b. line k l (also-none r g one (changed .same-length) (changed .elsewhere) k b ∙ sym b);
     }

@@ -26,7 +26,7 @@ withBytes r h =
 -- the reading of scanline k of h
 module _ (r : Raster) (h : List ℕ) (one : r .scn ≡ 1) (same-reached : (k : ℕ) → reached (withBytes r h) k ≡ reached r k) where
   pub reading-is : (k : ℕ) → reached r k ≡ true
-      → readingAt (withBytes r h) k ≡ reading (r .dataType) (r .ppl) (numberOf r k) (headAt (withBytes r h) k) (bodyAt (withBytes r h) k)
+      → readingAt (withBytes r h) k ≡ reading (r .dataType) (r .ppl) (numberOf (withBytes r h) k) (headAt (withBytes r h) k) (bodyAt (withBytes r h) k)
   reading-is k q = reading-own (withBytes r h) one k (same-reached k ∙ q)
 
   pub no-reading : (k : ℕ) → reached r k ≡ false → readingAt (withBytes r h) k ≡ unreached (r .ppl)
@@ -38,7 +38,7 @@ module _ (r : Raster) (h : List ℕ) (one : r .scn ≡ 1) (same-reached : (k : �
       go : (t : Bool) → reached r k ≡ t → readingAt (withBytes r h) k .row ≡ zeros (r .ppl)
       go true q =
           rw (reading-is k q)
-          (blank-row (r .dataType) (r .ppl) (numberOf r k) (headAt (withBytes r h) k) (bodyAt (withBytes r h) k) (rw (reading-is k q) at z))
+          (blank-row (r .dataType) (r .ppl) (numberOf (withBytes r h) k) (headAt (withBytes r h) k) (bodyAt (withBytes r h) k) (rw (reading-is k q) at z))
       go false q = rw (no-reading k q)
 
 -- the answer and the buffers of a file that is not rejected, by its raster
@@ -98,7 +98,7 @@ module _ (r : Raster) (h : List ℕ) (sheet : sheetOf h ≡ withBytes r h) (one 
             λ k l q.
             subst⁻¹
             (λ (x : Raster).
-            LineIs (r .ppl) k (pixelsAfter h pixels marks) (marksAfter h pixels marks) (reading (r .dataType) (r .ppl) (numberOf r k) (headAt x k) (bodyAt x k)))
+            LineIs (r .ppl) k (pixelsAfter h pixels marks) (marksAfter h pixels marks) (reading (r .dataType) (r .ppl) (numberOf x k) (headAt x k) (bodyAt x k)))
             sheet
             (rw (reading-is r h one same-reached k q) at (line-is k l));
         rest = λ k l q. rw (no-reading r h one same-reached k q) at (line-is k l);

@@ -12,10 +12,13 @@ use Rattle.fields.specs.declared.Fields.{Fields}
 use Rattle.fields.specs.Fields.{fieldsOf, headerBlocks}
 use Rattle.header.specs.Rejections.{rejectionTo22, rulesTo22}
 use Rattle.header.specs.laws.Accepted.{accepted}
+use Rattle.numbering.specs.Numbering.{firstPast, storedNumber}
+use Rattle.numbering.specs.laws.Numbering.{same-wanted}
 use Rattle.layout.specs.Scanline.{headOf}
-use Rattle.layout.specs.Chain.{Raster, sheetOf, from, start, reached, headAt, bodyAt, readingAt}
+use Rattle.layout.specs.Chain.{Raster, sheetOf, from, start, reached, headAt, bodyAt, rolloverOf, numberOf, readingAt}
 use Rattle.layout.specs.Reading.{rasterRejection, bufferRules}
 use Rattle.layout.specs.laws.Chain.{start-zero, reached-zero, reading-unreached, unreached-start, unreached-suc}
+use Rattle.layout.specs.laws.Numbering.{reached-earlier, rollover-is}
 use Rattle.isolation.specs.Statement.{InBody, ChangedInBodies}
 use Rattle.isolation.specs.laws.Same.{same-window}
 use Rattle.isolation.specs.laws.Headers.{same-fields, same-rules}
@@ -78,6 +81,14 @@ module _ (r : Raster) (g : List ℕ) (one : r .scn ≡ 1) (same-length : length 
   same-heads : (k : ℕ) → reached r k ≡ true → headAt (withBytes r g) k ≡ headAt r k
   same-heads k q = rw (same-starts k) (same-head k q)
 
+  -- so the number of line 65,536 is the same, and with it the number that a reached scanline must have
+  pub same-rollovers : reached r firstPast ≡ true → rolloverOf (withBytes r g) ≡ rolloverOf r
+  same-rollovers q = rollover-is (withBytes r g) ∙ ap storedNumber (same-heads firstPast q) ∙ sym (rollover-is r)
+
+  same-numbers : (k : ℕ) → reached r k ≡ true → numberOf (withBytes r g) k ≡ numberOf r k
+  same-numbers k q =
+      same-wanted (rolloverOf (withBytes r g)) (rolloverOf r) k (λ h. same-rollovers (reached-earlier r firstPast k h q))
+
   -- a scanline has a body as long as before, so none where it had none
   pub same-body-lengths : (k : ℕ) → length (bodyAt (withBytes r g) k) ≡ length (bodyAt r k)
   same-body-lengths k = go (reached r k) refl
@@ -96,7 +107,7 @@ module _ (r : Raster) (g : List ℕ) (one : r .scn ≡ 1) (same-length : length 
   same-readings k b = go (reached r k) refl
     where
       go : (t : Bool) → reached r k ≡ t → readingAt (withBytes r g) k ≡ readingAt r k
-      go true q = reading-is r g one same-reaches k q ∙ rw (same-heads k q, b) (sym (reading-own r one k q))
+      go true q = reading-is r g one same-reaches k q ∙ rw (same-numbers k q, same-heads k q, b) (sym (reading-own r one k q))
       go false q = no-reading r g one same-reaches k q ∙ sym (reading-unreached r k q)
 
 -- a file with the same fields has the same sheet but for its bytes

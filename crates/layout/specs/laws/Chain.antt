@@ -11,6 +11,12 @@ use Rattle.layout.specs.Scanline.{Reading, readingOf, unreached}
 use Rattle.layout.specs.Chain.{Raster, from, stepAt, start, reached, numberOf, readingAt, rows, statuses, oneIfGood, goodCount}
 use Rattle.layout.specs.laws.Line.{used-within, lost-used, length-row}
 
+-- a scanline reached and not lost, as the next one's being reached says
+pub both : (a b : Bool) → (a && not b) ≡ true → (a ≡ true) × (b ≡ false)
+both true false h = (refl, refl)
+both true true h = (refl, sym h)
+both false b h = absurd (false≢true h)
+
 module _ (r : Raster) where
   -- where scanlines start and which are reached, one after the other
   pub start-zero : start r zero ≡ r .dataStart

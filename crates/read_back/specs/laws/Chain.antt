@@ -1,7 +1,7 @@
 -- A raster whose bytes are a header followed by the scanlines of a picture: they stand one after the other, each good, and read as the
 -- picture's rows.
-use Prim.Native.Nat.{ℕ, zero, suc, _+_, _*_, _≤_}
-use mathlib.Core.Path.{_≡_, refl, sym, subst⁻¹}
+use Prim.Native.Nat.{ℕ, zero, suc, _*_, _≤_, _<_}
+use mathlib.Core.Path.{_≡_, refl, sym, _∙_, ap, subst⁻¹}
 use mathlib.Core.List.{List, _++_}
 use native.Mathlib.Nat.{suc-mul, zero-mul}
 use native.Mathlib.Omega.{arith}
@@ -12,9 +12,12 @@ use Rattle.units.specs.Words.{wordsToBytes}
 use Rattle.codec.specs.Table.{codecOf, bodyBytes}
 use Rattle.codec.specs.laws.RoundTrip.{ReadBack}
 use Rattle.layout.specs.Scanline.{Reading, Step, stepOf, readingOf}
-use Rattle.layout.specs.Chain.{Raster, rows}
+use Rattle.numbering.specs.Numbering.{firstPast, writtenNumber, storedNumber}
+use Rattle.numbering.specs.laws.Numbering.{same-wanted, written-wanted}
+use Rattle.layout.specs.Chain.{Raster, rolloverOf, numberOf, rows}
 use Rattle.layout.specs.laws.Written.{Back, Heads, line-back}
-use Rattle.layout.specs.laws.Lined.{Lined, reads}
+use Rattle.layout.specs.laws.Numbering.{rollover-is}
+use Rattle.layout.specs.laws.Lined.{Lined, head-there, reads}
 use Rattle.encode_header.specs.Picture.{Picture, rowAt}
 use Rattle.encode_raster.specs.File.{lineHeader, lineBytes, linesOf}
 use Rattle.read_back.specs.laws.Given.{Given}
@@ -34,7 +37,7 @@ written-back scn t p number row rest low l b =
     line-back scn t p number (lineHeader number body) row rest low l (λ s. heads number body) b
 
 abbrev pub lineOfPicture : Picture → ℕ → List ℕ
-lineOfPicture i k = lineBytes (i .dtc) (i .scn) (k + 1) (rowAt i k)
+lineOfPicture i k = lineBytes (i .dtc) (i .scn) (writtenNumber k) (rowAt i k)
 
 -- a raster whose fields are the picture's
 pub record Written (i : Picture) (r : Raster) (hd : List ℕ) : Type 0 where
@@ -45,7 +48,7 @@ pub record Written (i : Picture) (r : Raster) (hd : List ℕ) : Type 0 where
   pub ppl : r .ppl ≡ i .ppl
 
 module _ (i : Picture) (r : Raster) (hd : List ℕ) (g : Given i) (w : Written i r hd) where
-  pub lined : Lined r (i .nol) (lineOfPicture i) (linesOf i) (rowAt i)
+  pub lined : Lined r (i .nol) writtenNumber (lineOfPicture i) (linesOf i) (rowAt i)
   unfolding linesOf
   lined =
       record {
@@ -59,16 +62,32 @@ module _ (i : Picture) (r : Raster) (hd : List ℕ) (g : Given i) (w : Written i
             let x = row-facts i g k h in
             let all = lineOfPicture i k ++ rest in
             let steps : stepOf (r .scn) (r .dataType) (r .ppl) all ≡ stepOf (i .scn) (i .dtc) (i .ppl) all = λ j. stepOf (w .scn j) (w .type j) (w .ppl j) all in
-            let readings : readingOf (r .scn) (r .dataType) (r .ppl) (k + 1) all ≡ readingOf (i .scn) (i .dtc) (i .ppl) (k + 1) all =
-            λ j. readingOf (w .scn j) (w .type j) (w .ppl j) (k + 1) all in
-            subst⁻¹ (λ (y : Step). Back y (readingOf (r .scn) (r .dataType) (r .ppl) (k + 1) all) (rowAt i k) (length (lineOfPicture i k))) steps
+            let readings : readingOf (r .scn) (r .dataType) (r .ppl) (writtenNumber k) all ≡ readingOf (i .scn) (i .dtc) (i .ppl) (writtenNumber k) all =
+            λ j. readingOf (w .scn j) (w .type j) (w .ppl j) (writtenNumber k) all in
+            subst⁻¹ (λ (y : Step). Back y (readingOf (r .scn) (r .dataType) (r .ppl) (writtenNumber k) all) (rowAt i k) (length (lineOfPicture i k))) steps
             (subst⁻¹ (λ (y : Reading). Back (stepOf (i .scn) (i .dtc) (i .ppl) all) y (rowAt i k) (length (lineOfPicture i k))) readings
-            (written-back (i .scn) (i .dtc) (i .ppl) (k + 1) (rowAt i k) rest (g .limits .scn-most) (x .full) (x .back)));
+            (written-back (i .scn) (i .dtc) (i .ppl) (writtenNumber k) (rowAt i k) rest (g .limits .scn-most) (x .full) (x .back)));
       }
+
+  -- the numbers written are those that are wanted, by the one of line 65,536
+  rollover-written : r .scn ≡ 1 → 65535 < i .nol → rolloverOf r ≡ writtenNumber firstPast
+  unfolding lineBytes
+  rollover-written one h =
+      let body = bodyBytes (i .dtc) (i .scn) (rowAt i firstPast) in
+      let x = heads (writtenNumber firstPast) body in
+      let e : lineOfPicture i firstPast ≡ lineHeader (writtenNumber firstPast) body ++ body = rw (sym (w .scn) ∙ one) in
+      rollover-is r
+      ∙ ap storedNumber
+      (head-there r (i .nol) writtenNumber (lineOfPicture i) (linesOf i) (rowAt i) lined firstPast h (lineHeader (writtenNumber firstPast) body) body e (x .eight))
+      ∙ x .line-number
+
+  pub numbered : r .scn ≡ 1 → (k : ℕ) → k < i .nol → numberOf r k ≡ writtenNumber k
+  numbered one k h =
+      same-wanted (rolloverOf r) (writtenNumber firstPast) k (λ past. rollover-written one (omega arith)) ∙ written-wanted k
 
   pub rows-are : (n : ℕ) → n ≤ i .nol → rows r n ≡ take (n * i .ppl) (i .pixels)
   unfolding rows
   rows-are zero h = rw (zero-mul (i .ppl))
   rows-are (suc n) h =
-      rw (rows-are n (omega arith), reads r (i .nol) (lineOfPicture i) (linesOf i) (rowAt i) lined n h .row-is, suc-mul n (i .ppl))
+      rw (rows-are n (omega arith), reads r (i .nol) writtenNumber (lineOfPicture i) (linesOf i) (rowAt i) lined numbered n h .row-is, suc-mul n (i .ppl))
       (sym (take-add (n * i .ppl) (i .ppl) (i .pixels)))

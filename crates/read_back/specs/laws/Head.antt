@@ -60,7 +60,7 @@ givenFields i = fieldsIf i (eqb (length (i .table)) 0)
 stored : (v : ℕ) → v < 65536 → v % 256 + 256 * (v / 256 % 256) ≡ v
 stored v h = omega arith
 
-stored-long : (v : ℕ) → v < 65536
+stored-long : (v : ℕ) → v < 4294967296
     → (v % 256 + 256 * (v / 256 % 256)) + 65536 * (v / 65536 % 256 + 256 * (v / 65536 / 256 % 256)) ≡ v
 stored-long v h = omega arith
 

@@ -9,12 +9,13 @@ use Rattle.fields.specs.declared.Fields.{Fields}
 use Rattle.layout.specs.Chain.{Raster, sheetOf, start, rows, statuses, goodCount}
 use Rattle.layout.specs.laws.Lined.{statuses-are, good-are, end-is}
 use Rattle.layout.specs.Reading.{RasterNumbers, answerOf, readNumbers, rasterReading, pixelsAfter, marksAfter}
+use Rattle.numbering.specs.Numbering.{writtenNumber}
 use Rattle.encode_header.specs.Picture.{Picture, rowAt}
 use Rattle.encode_raster.specs.File.{linesOf, fileBytes}
 use Rattle.read_back.specs.Statement.{ReadsBack, AllReadBack}
 use Rattle.read_back.specs.laws.Given.{Given, given}
 use Rattle.read_back.specs.laws.Head.{fields-are}
-use Rattle.read_back.specs.laws.Chain.{lineOfPicture, lined, rows-are}
+use Rattle.read_back.specs.laws.Chain.{lineOfPicture, lined, numbered, rows-are}
 use Rattle.read_back.specs.laws.Accepted.{headed, written, raster-not-rejected, header-is}
 use Rattle.read_back.specs.laws.Colors.{colors-are}
 
@@ -38,17 +39,18 @@ reads i pixels marks b g l m =
     let p : r .ppl ≡ i .ppl = ap (λ (h : Fields). h .ppl) (fields-are i b g) in
     let n : i .nol ≤ i .nol = omega arith in
     let all = lined i r (headed i g) g w in
+    let numbers = numbered i r (headed i g) g w in
     let line = lineOfPicture i in
     let lines = linesOf i in
     let row = rowAt i in
     record {
       header = header-is i b g;
       colors = colors-are i b g;
-      answer = rw q (good-numbers r (i .nol) e (good-are r (i .nol) line lines row all (i .nol) n) (end-is r (i .nol) line lines row all));
+      answer = rw q (good-numbers r (i .nol) e (good-are r (i .nol) writtenNumber line lines row all numbers (i .nol) n) (end-is r (i .nol) writtenNumber line lines row all));
       marks-are =
           rw q
           (ap (λ (k : ℕ). statuses r k ++ drop k marks) e
-          ∙ ap (λ (x : List ℕ). x ++ drop (i .nol) marks) (statuses-are r (i .nol) line lines row all (i .nol) n));
+          ∙ ap (λ (x : List ℕ). x ++ drop (i .nol) marks) (statuses-are r (i .nol) writtenNumber line lines row all numbers (i .nol) n));
       pixels-are =
           rw q
           ((λ j. rows r (e j) ++ drop (e j * p j) pixels)

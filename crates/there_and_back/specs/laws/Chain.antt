@@ -15,16 +15,19 @@ use Rattle.units.specs.Words.{wordCount}
 use Rattle.units.specs.laws.Below.{AllBelow}
 use Rattle.codec.specs.Table.{codecOf, isDataType, bodyBytes}
 use Rattle.codec.specs.laws.RoundTrip.{ReadBack, read-back}
-use Rattle.layout.specs.Scanline.{headOf, bodyOf, pixelOffset, Reading, Step, stepOf, readingOf}
-use Rattle.layout.specs.Chain.{Raster, from, stepAt, start, reached, headAt, bodyAt, numberOf, readingAt}
+use Rattle.numbering.specs.Numbering.{firstPast, storedNumber}
+use Rattle.numbering.specs.laws.Numbering.{same-wanted}
+use Rattle.layout.specs.Scanline.{bodyOf, pixelOffset, Reading, Step, stepOf, readingOf}
+use Rattle.layout.specs.Chain.{Raster, from, stepAt, start, reached, headAt, bodyAt, rolloverOf, numberOf, readingAt}
 use Rattle.layout.specs.laws.Chain.{start-zero, start-suc, reading-reached, reading-unreached, length-reading, start-within}
+use Rattle.layout.specs.laws.Numbering.{rollover-is}
 use Rattle.layout.specs.laws.Written.{Back, Heads, line-back}
-use Rattle.layout.specs.laws.Lined.{Lined, stands, reads}
+use Rattle.layout.specs.laws.Lined.{Lined, head-there, reads}
 use Rattle.transcode_parts.specs.Headers.{otherType}
 use Rattle.transcode.specs.File.{fittedHeader, newLine, newLineAt, newLines}
 use Rattle.there_and_back.specs.Statement.{IsBytes, storedBody, BodiesAsWritten}
 use Rattle.there_and_back.specs.laws.Levels.{TwoLevels}
-use Rattle.there_and_back.specs.laws.Line.{bytes-drop, good-levels, good-heads, packed-stored, line-stands}
+use Rattle.there_and_back.specs.laws.Line.{bytes-drop, number-kept, good-levels, good-heads, packed-stored, line-stands}
 use Rattle.there_and_back.specs.laws.Placing.{word-again}
 
 -- a sheet that can be transcoded
@@ -93,7 +96,7 @@ module _ (r : Raster) (m : Movable r) where
       ∙ ap (λ (x : Reading). bodyBytes (r .dataType) (r .scn) (x .row)) (sym (reading-there k h))
 
   module _ (g : Raster) (w : Moved r g) where
-    pub lined : Lined g (r .nol) (newLineAt r) (newLines r) (λ k. readingAt r k .row)
+    pub lined : Lined g (r .nol) (numberOf r) (newLineAt r) (newLines r) (λ k. readingAt r k .row)
     unfolding newLines newLine
     lined =
         record {
@@ -110,46 +113,60 @@ module _ (r : Raster) (m : Movable r) where
               let l = length-reading r k in
               let hd = fittedHeader (headAt r k) (bodyBytes t (r .scn) row) in
               let steps : stepOf (g .scn) (g .dataType) (g .ppl) all ≡ stepOf (r .scn) t (r .ppl) all = λ j. stepOf (w .scn j) (w .type j) (w .ppl j) all in
-              let readings : readingOf (g .scn) (g .dataType) (g .ppl) (k + 1) all ≡ readingOf (r .scn) t (r .ppl) (k + 1) all =
-              λ j. readingOf (w .scn j) (w .type j) (w .ppl j) (k + 1) all in
-              subst⁻¹ (λ (y : Step). Back y (readingOf (g .scn) (g .dataType) (g .ppl) (k + 1) all) row (length (newLineAt r k))) steps
+              let readings : readingOf (g .scn) (g .dataType) (g .ppl) (numberOf r k) all ≡ readingOf (r .scn) t (r .ppl) (numberOf r k) all =
+              λ j. readingOf (w .scn j) (w .type j) (w .ppl j) (numberOf r k) all in
+              subst⁻¹ (λ (y : Step). Back y (readingOf (g .scn) (g .dataType) (g .ppl) (numberOf r k) all) row (length (newLineAt r k))) steps
               (subst⁻¹ (λ (y : Reading). Back (stepOf (r .scn) t (r .ppl) all) y row (length (newLineAt r k))) readings
-              (line-back (r .scn) t (r .ppl) (k + 1) hd row rest (m .scn-most) l
+              (line-back (r .scn) t (r .ppl) (numberOf r k) hd row rest (m .scn-most) l
               (λ one.
               good-heads (r .scn) (r .dataType) (r .ppl) (numberOf r k) (from r (start r k)) (m .scn-most) (good-there k h) (m .column k h) one
               (bodyBytes t (r .scn) row))
               (other-back (r .dataType) row (m .two) (omega (arith, m .ppl-least)) (rows-low k h))));
         }
 
-    -- the headers of the new sheet are the old ones, fitted: fitted once more nothing of that is left
+    -- the headers of the new sheet are the old ones, fitted
+    new-head : (k : ℕ) → k < r .nol → r .scn ≡ 1
+        → headAt g k ≡ fittedHeader (headAt r k) (bodyBytes (otherType (r .dataType)) (r .scn) (readingAt r k .row))
+    unfolding newLine
+    new-head k h one =
+        let new = bodyBytes (otherType (r .dataType)) (r .scn) (readingAt r k .row) in
+        let hd = fittedHeader (headAt r k) new in
+        let heads =
+        good-heads (r .scn) (r .dataType) (r .ppl) (numberOf r k) (from r (start r k)) (m .scn-most) (good-there k h) (m .column k h) one new in
+        head-there g (r .nol) (numberOf r) (newLineAt r) (newLines r) (λ j. readingAt r j .row) lined k h hd new (rw one) (heads .eight)
+
+    -- with their numbers, so that the same are wanted
+    pub numbered : g .scn ≡ 1 → (k : ℕ) → k < r .nol → numberOf g k ≡ numberOf r k
+    numbered one k h =
+        same-wanted (rolloverOf g) (rolloverOf r) k
+        (λ past.
+        rollover-is g
+        ∙ ap storedNumber (new-head firstPast (omega arith) (sym (w .scn) ∙ one))
+        ∙ number-kept (headAt r firstPast) (bodyBytes (otherType (r .dataType)) (r .scn) (readingAt r firstPast .row))
+        ∙ sym (rollover-is r))
+
+    -- fitted once more nothing of that is left
     fitted-again : (k : ℕ) → k < r .nol → (t : ℕ) (row : List ℕ) → newLine (r .scn) t (headAt g k) row ≡ newLine (r .scn) t (headAt r k) row
-    unfolding newLine headOf
-    fitted-again k h t row =
-        let at = stands g (r .nol) (newLineAt r) (newLines r) (λ j. readingAt r j .row) lined k h in
-        go (eqb (r .scn) 1) refl (at .0) (at .1)
+    unfolding newLine
+    fitted-again k h t row = go (eqb (r .scn) 1) refl
       where
-        go : (b : Bool) → eqb (r .scn) 1 ≡ b → (rest : List ℕ)
-            → (let body = bodyBytes (otherType (r .dataType)) (r .scn) (readingAt r k .row) in
-            from g (start g k) ≡ cond b (fittedHeader (headAt r k) body ++ body) body ++ rest)
+        go : (b : Bool) → eqb (r .scn) 1 ≡ b
             → (let body = bodyBytes t (r .scn) row in
             cond b (fittedHeader (headAt g k) body ++ body) body ≡ cond b (fittedHeader (headAt r k) body ++ body) body)
-        go true e rest at =
+        go true e =
             let new = bodyBytes (otherType (r .dataType)) (r .scn) (readingAt r k .row) in
             let body = bodyBytes t (r .scn) row in
-            let hd = fittedHeader (headAt r k) new in
-            let eight : length hd ≡ 8 =
-            good-heads (r .scn) (r .dataType) (r .ppl) (numberOf r k) (from r (start r k)) (m .scn-most) (good-there k h) (m .column k h) (eqb-true (r .scn) 1 e) new
-            .eight in
-            let there : headAt g k ≡ hd = ap (take 8) (at ∙ append-assoc hd new rest) ∙ take-at hd (new ++ rest) 8 eight in
-            ap (λ (x : List ℕ). x ++ body) (ap (λ (x : List ℕ). fittedHeader x body) there ∙ word-again (headAt r k) 2 (wordCount new .0 + 2) (wordCount body .0 + 2))
-        go false e rest at = refl
+            ap (λ (x : List ℕ). x ++ body)
+            (ap (λ (x : List ℕ). fittedHeader x body) (new-head k h (eqb-true (r .scn) 1 e))
+            ∙ word-again (headAt r k) 2 (wordCount new .0 + 2) (wordCount body .0 + 2))
+        go false e = refl
 
     -- a scanline transcoded twice is what stood there
     module _ (below : IsBytes (r .bytes)) (written : BodiesAsWritten r) where
       line-again : (k : ℕ) → k < r .nol → newLineAt g k ≡ take (stepAt r (start r k) .used .0) (from r (start r k))
       line-again k h =
           (λ j. newLine (w .scn j) (otherType (w .type j)) (headAt g k)
-          (reads g (r .nol) (newLineAt r) (newLines r) (λ i. readingAt r i .row) lined k h .row-is j))
+          (reads g (r .nol) (numberOf r) (newLineAt r) (newLines r) (λ i. readingAt r i .row) lined numbered k h .row-is j))
           ∙ ap (λ (t : ℕ). newLine (r .scn) t (headAt g k) (readingAt r k .row)) (other-other (r .dataType) (m .two))
           ∙ fitted-again k h (r .dataType) (readingAt r k .row)
           ∙ ap (λ (x : Reading). newLine (r .scn) (r .dataType) (headAt r k) (x .row)) (reading-there k h)

@@ -18,14 +18,14 @@ use Rattle.fields.specs.Fields.{fieldsOf}
 use Rattle.header.specs.Rejections.{rulesTo22, rejectionTo22}
 use Rattle.header.specs.Reading.{fieldNumbers, headerReading}
 use Rattle.header.specs.laws.Accepted.{accepted}
-use Rattle.layout.specs.Chain.{Raster, sheetOf, start, readingAt, rows, statuses, goodCount}
+use Rattle.layout.specs.Chain.{Raster, sheetOf, start, numberOf, readingAt, rows, statuses, goodCount}
 use Rattle.layout.specs.Reading.{RasterNumbers, bufferRules, rasterRejection, answerOf, readNumbers, rasterReading, pixelsAfter, marksAfter}
 use Rattle.layout.specs.laws.Lined.{Lined, reads, statuses-are, good-are, end-is}
 use Rattle.transcode_parts.specs.Headers.{otherType}
 use Rattle.transcode.specs.File.{carriedHeader, newLineAt, newLines, transcoded}
 use Rattle.transcode.specs.Transcoding.{transcodeRejection}
 use Rattle.there_and_back.specs.Statement.{IsBytes, BodiesAsWritten, NothingFollows, ComesBack, ReadsAsBefore, AllReadAsBefore}
-use Rattle.there_and_back.specs.laws.Chain.{Movable, Moved, other-other, packed-written, lined, lines-again}
+use Rattle.there_and_back.specs.laws.Chain.{Movable, Moved, other-other, packed-written, lined, numbered, lines-again}
 use Rattle.there_and_back.specs.laws.Given.{Given, given, accepted-too, moved, same-start, same-lines}
 use Rattle.there_and_back.specs.laws.Header.{length-carried, is-split, fields-are}
 use Rattle.there_and_back.specs.laws.Line.{bytes-take}
@@ -73,14 +73,17 @@ module _ (f : List ℕ) (g : Given f) where
       ∙ take-append-drop size f
 
   -- the reading of the new sheet
-  all-lined : Lined new (old .nol) (newLineAt old) (newLines old) (λ k. readingAt old k .row)
+  all-lined : Lined new (old .nol) (numberOf old) (newLineAt old) (newLines old) (λ k. readingAt old k .row)
   all-lined = lined old (g .movable) new (moved f g)
+
+  all-numbered : new .scn ≡ 1 → (k : ℕ) → k < old .nol → numberOf new k ≡ numberOf old k
+  all-numbered = numbered old (g .movable) new (moved f g)
 
   rows-same : (n : ℕ) → n ≤ old .nol → rows new n ≡ rows old n
   unfolding rows
   rows-same zero h = refl
   rows-same (suc n) h =
-      rw (rows-same n (omega arith), reads new (old .nol) (newLineAt old) (newLines old) (λ k. readingAt old k .row) all-lined n h .row-is)
+      rw (rows-same n (omega arith), reads new (old .nol) (numberOf old) (newLineAt old) (newLines old) (λ k. readingAt old k .row) all-lined all-numbered n h .row-is)
 
   statuses-old : (n : ℕ) → n ≤ old .nol → statuses old n ≡ zeros n
   unfolding statuses
@@ -95,9 +98,9 @@ module _ (f : List ℕ) (g : Given f) where
       let row : ℕ → List ℕ = λ k. readingAt old k .row in
       ap numbers (same-lines f g)
       ∙ (λ j. record {
-        answer = answerOf (good-are new n line lines row all-lined n (omega arith) j) n;
-        good = good-are new n line lines row all-lined n (omega arith) j;
-        end = end-is new n line lines row all-lined j;
+        answer = answerOf (good-are new n (numberOf old) line lines row all-lined all-numbered n (omega arith) j) n;
+        good = good-are new n (numberOf old) line lines row all-lined all-numbered n (omega arith) j;
+        end = end-is new n (numberOf old) line lines row all-lined j;
       })
       ∙ rw (eq-eqb n n refl)
     where
@@ -132,7 +135,7 @@ reads-so f pixels marks g l m =
           rw (a, b)
           (ap (λ (n : ℕ). statuses s n ++ drop n marks) lines
           ∙ ap (λ (x : List ℕ). x ++ drop (r .nol) marks)
-          (statuses-are s (r .nol) (newLineAt r) (newLines r) (λ k. readingAt r k .row) (all-lined f g) (r .nol) (omega arith)
+          (statuses-are s (r .nol) (numberOf r) (newLineAt r) (newLines r) (λ k. readingAt r k .row) (all-lined f g) (all-numbered f g) (r .nol) (omega arith)
           ∙ sym (statuses-old f g (r .nol) (omega arith))));
       pixels-are =
           rw (a, b)

@@ -22,6 +22,7 @@ use Rattle.packing.specs.Packing.{packedCount}
 use Rattle.codec.specs.Codec.{rowOf, fault, kept}
 use Rattle.codec.specs.PackedPixels.{packedPixels, packedRules, spareSet}
 use Rattle.codec.specs.Table.{codecOf, bodyRules, bodyPixels, bodyExtent, bodyBytes}
+use Rattle.numbering.specs.Numbering.{storedNumber}
 use Rattle.layout.specs.Scanline.{headOf, bodyOf, following, lostRules, pixelOffset, bodyWidth, placementRules, rowPixels, Reading, reading, headedReading, openReading, headedStep, openStep, stepOf, readingOf, isLost}
 use Rattle.layout.specs.laws.Line.{NotLost, not-lost, is-not-lost, NoFault, no-fault, row-by-status, head-word}
 use Rattle.layout.specs.laws.Written.{Heads}
@@ -47,6 +48,15 @@ bytes-drop n l h i = rw (getD-drop n l i 0) (h (n + i))
 zeros-low : (m : ℕ) → AllBelow 2 (zeros m)
 zeros-low zero = tt
 zeros-low (suc m) = (omega arith, zeros-low m)
+
+-- a header that is fitted keeps its bytes but for W, and so its line number
+fitted-elsewhere : (hd body : List ℕ) (j : ℕ) → (2 ≤ j → j < 4 → ⊥) → getD (fittedHeader hd body) j 0 ≡ getD hd j 0
+fitted-elsewhere hd body j h = sets-misses hd 2 (twoBytes (wordCount body .0 + 2)) j h
+
+pub number-kept : (hd body : List ℕ) → storedNumber (fittedHeader hd body) ≡ storedNumber hd
+unfolding u16At
+number-kept hd body =
+    ap₂ (λ (a b : ℕ). a + 256 * b) (fitted-elsewhere hd body 4 (λ a b. omega arith)) (fitted-elsewhere hd body 5 (λ a b. omega arith))
 
 -- with a header
 module _ (t p number : ℕ) (rest : List ℕ) (good : headedReading t p number rest .status ≡ 0) where
@@ -77,14 +87,13 @@ module _ (t p number : ℕ) (rest : List ℕ) (good : headedReading t p number r
         let w = wordCount body .0 + 2 in
         let lost = none-holds (lostRules hd (bodyOf rest)) tt (none .frame) in
         let placed = none-holds (placementRules p number hd) tt (none .fields) in
-        let other : (j : ℕ) → (2 ≤ j → j < 4 → ⊥) → getD (fittedHeader hd body) j 0 ≡ getD hd j 0 = λ j h. sets-misses hd 2 (twoBytes w) j h in
+        let other = fitted-elsewhere hd body in
         record {
           eight = length-sets hd 2 (twoBytes w) ∙ eight;
           identifier = other 1 (λ a b. omega arith) ∙ eqb-true (byteAt hd 1) 0x59 (not-false (eqb (byteAt hd 1) 0x59) (lost .1 .0));
           follow = word-there hd 2 w (omega (arith, eight));
           line-number =
-              ap₂ (λ (a b : ℕ). a + 256 * b) (other 4 (λ a b. omega arith)) (other 5 (λ a b. omega arith))
-              ∙ eqb-true (u16At hd 4) number (not-false (eqb (u16At hd 4) number) (placed .0));
+              number-kept hd body ∙ eqb-true (storedNumber hd) number (not-false (eqb (storedNumber hd) number) (placed .0));
           offset = ap₂ (λ (a b : ℕ). a + 256 * b) (other 6 (λ a b. omega arith)) (other 7 (λ a b. omega arith)) ∙ column;
         }
 

@@ -1,15 +1,19 @@
 -- The first k scanlines, none of them lost, are settled by the bytes before the next one.
-use Prim.Native.Nat.{ℕ, zero, suc, _+_, _≤_}
+use Prim.Native.Nat.{ℕ, zero, suc, _+_, _≤_, _<_}
 use mathlib.Core.Path.{_≡_, refl, sym, _∙_, ap}
 use mathlib.Core.Bool.{true, false, not, _&&_}
 use mathlib.Core.List.{List, [], _∷_, _++_}
+use mathlib.Core.Logic.{inl, inr}
 use native.Mathlib.Omega.{arith}
 use lib.ListN.{length, take, drop}
-use Rattle.layout.specs.Scanline.{readingOf}
-use Rattle.layout.specs.Chain.{Raster, from, stepAt, start, reached, numberOf, readingAt, rows, statuses, oneIfGood, goodCount}
-use Rattle.layout.specs.laws.Chain.{start-zero, start-suc, reached-zero, reached-suc, reading-reached, start-within}
+use Rattle.units.specs.laws.Numbers.{below-next}
+use Rattle.numbering.specs.Numbering.{storedNumber}
+use Rattle.numbering.specs.laws.Numbering.{same-wanted}
+use Rattle.layout.specs.Scanline.{headOf, readingOf}
+use Rattle.layout.specs.Chain.{Raster, from, stepAt, start, reached, headAt, rolloverOf, numberOf, readingAt, rows, statuses, oneIfGood, goodCount}
+use Rattle.layout.specs.laws.Chain.{both, start-zero, start-suc, reached-zero, reached-suc, reading-reached, start-within}
+use Rattle.layout.specs.laws.Numbering.{rollover-is, same-number}
 use Rattle.isolation.specs.laws.OneFile.{withBytes}
-use Rattle.isolation.specs.laws.Chained.{both}
 use Rattle.trailing.specs.laws.Front.{front-long, front-less, front-part}
 use Rattle.trailing.specs.laws.Line.{SameScanline, same-scanline}
 
@@ -22,6 +26,7 @@ module _ (r : Raster) (g : List ℕ) where
     pub same-rows : rows (withBytes r g) k ≡ rows r k
     pub same-statuses : statuses (withBytes r g) k ≡ statuses r k
     pub same-good : goodCount (withBytes r g) k ≡ goodCount r k
+    pub same-rollover : r .scn ≡ 1 → 65535 < k → rolloverOf (withBytes r g) ≡ rolloverOf r
 
   module _ (inside : r .dataStart ≤ length (r .bytes)) where
     next-reached : (k : ℕ) → reached r (suc k) ≡ true → (reached r k ≡ true) × (stepAt r (start r k) .lost ≡ false)
@@ -42,11 +47,28 @@ module _ (r : Raster) (g : List ℕ) where
         same-scanline (r .scn) (r .dataType) (r .ppl) (from r s) (drop s g) kept
         (front-part g (r .bytes) n front s (stepAt r s .used .0) (omega arith) l (omega arith))
 
+    -- from line 65,536 on, its number is the same
+    rollover-same : (k : ℕ) → SameScanline (r .scn) (r .dataType) (r .ppl) (from r (start r k)) (drop (start r k) g) → SameLines k
+        → r .scn ≡ 1 → 65535 ≤ k → rolloverOf (withBytes r g) ≡ rolloverOf r
+    rollover-same k line c one h =
+        elim (below-next 65535 k (omega arith)) [
+          | inl l ↦ c .same-rollover one l
+          | inr e ↦
+              rollover-is (withBytes r g)
+              ∙ ap (λ (j : ℕ). storedNumber (headAt (withBytes r g) j)) e
+              ∙ ap (λ (n : ℕ). storedNumber (headOf (drop n g))) (c .starts)
+              ∙ ap storedNumber (line .head one)
+              ∙ ap (λ (j : ℕ). storedNumber (headAt r j)) (sym e)
+              ∙ sym (rollover-is r)
+        ]
+
     -- and has the same reading where those before it are the same
     pub line-reading : (k : ℕ) → reached r k ≡ true → SameScanline (r .scn) (r .dataType) (r .ppl) (from r (start r k)) (drop (start r k) g)
         → SameLines k → readingAt (withBytes r g) k ≡ readingAt r k
     line-reading k q line c =
         reading-reached (withBytes r g) k (c .reaches)
+        ∙ same-number (r .scn) (r .dataType) (r .ppl) (from (withBytes r g) (start (withBytes r g) k))
+        (λ one. same-wanted (rolloverOf (withBytes r g)) (rolloverOf r) k (rollover-same k line c one))
         ∙ ap (λ (n : ℕ). readingOf (r .scn) (r .dataType) (r .ppl) (numberOf r k) (drop n g)) (c .starts)
         ∙ line .reading (numberOf r k)
         ∙ sym (reading-reached r k q)
@@ -64,6 +86,7 @@ module _ (r : Raster) (g : List ℕ) where
           same-rows = λ i. c .same-rows i ++ x i .row;
           same-statuses = λ i. c .same-statuses i ++ (x i .status ∷ []);
           same-good = λ i. c .same-good i + oneIfGood (x i .status);
+          same-rollover = λ one h. rollover-same k line c one (omega arith);
         }
 
     pub same-lines : (k : ℕ) → reached r k ≡ true → take (start r k) g ≡ take (start r k) (r .bytes) → SameLines k
@@ -75,6 +98,7 @@ module _ (r : Raster) (g : List ℕ) where
           same-rows = refl;
           same-statuses = refl;
           same-good = refl;
+          same-rollover = λ one h. absurd (omega arith);
         }
     same-lines (suc k) q front =
         let b = next-reached k q in

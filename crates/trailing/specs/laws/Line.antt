@@ -29,6 +29,7 @@ same-extent t p a b h same =
 pub record SameScanline (scn t p : ℕ) (a b : List ℕ) : Type 0 where
   pub step : stepOf scn t p b ≡ stepOf scn t p a
   pub reading : (number : ℕ) → readingOf scn t p number b ≡ readingOf scn t p number a
+  pub head : scn ≡ 1 → headOf b ≡ headOf a
 
 -- with a header: the bytes of a scanline that is not lost, its header and its body
 abbrev size : List ℕ → ℕ
@@ -68,8 +69,15 @@ same-open t p a b h same =
 pub same-scanline : (scn t p : ℕ) (a b : List ℕ) → stepOf scn t p a .lost ≡ false
     → take (stepOf scn t p a .used .0) b ≡ take (stepOf scn t p a .used .0) a → SameScanline scn t p a b
 same-scanline scn t p a b h same =
-    record { step = go (eqb scn 1) 0 h same .0; reading = λ number. go (eqb scn 1) number h same .1 }
+    record {
+      step = go (eqb scn 1) 0 h same .0;
+      reading = λ number. go (eqb scn 1) number h same .1;
+      head = λ one. there (rw one at h) (rw one at same);
+    }
   where
+    there : headedStep a .lost ≡ false → take (headedStep a .used .0) b ≡ take (headedStep a .used .0) a → headOf b ≡ headOf a
+    there l e = same-head a b (kept a l) (rw l at e)
+
     go : (s : Bool) (number : ℕ) → cond s (headedStep a) (openStep t p a) .lost ≡ false
         → take (cond s (headedStep a) (openStep t p a) .used .0) b ≡ take (cond s (headedStep a) (openStep t p a) .used .0) a
         → (cond s (headedStep b) (openStep t p b) ≡ cond s (headedStep a) (openStep t p a))

@@ -9,10 +9,11 @@ use Rattle.transcode.proofs.survey_lines.Statement.{statement}
 use Rattle.transcode.proofs.survey_lines.Tie as tie
 
 abbrev Inv-loop : tie.InvT-loop
-Inv-loop bytes l row₀ to head n at₀ partway₀ long₀ size₀ k₀ row at partway long size k = SurveyAt (rasterOf l bytes) at partway long size row k
+Inv-loop bytes l row₀ to head n at₀ rollover₀ partway₀ long₀ size₀ k₀ row at rollover partway long size k =
+    SurveyAt (rasterOf l bytes) at rollover partway long size row k
 
 abbrev μ-loop : tie.MeasureT-loop
-μ-loop bytes l row₀ to head n at₀ partway₀ long₀ size₀ k₀ row at partway long size k = n - k
+μ-loop bytes l row₀ to head n at₀ rollover₀ partway₀ long₀ size₀ k₀ row at rollover partway long size k = n - k
 
 loop-holds : tie.Need-loop-holds Inv-loop μ-loop
 loop-holds c =
@@ -22,21 +23,15 @@ loop-holds c =
 abbrev start : tie.In-loop Inv-loop μ-loop → tie.Start Inv-loop μ-loop
 start c = c .before .before .before .before .before .before .before
 
-add-number : tie.Need-add-number Inv-loop μ-loop
-add-number c = omega (arith, start c .pre .nol-most, c .loop-test .taken)
+sub-rest : tie.Need-sub-rest Inv-loop μ-loop
+sub-rest c = c .before .loop .inv .within
 
-cast-number : tie.Need-cast-number Inv-loop μ-loop
-cast-number c = omega (arith, start c .pre .nol-most, c .loop-test .taken)
-
-sub-survey-line : tie.Need-sub-survey-line Inv-loop μ-loop
-sub-survey-line c = c .before .loop .inv .within
-
-part-survey-line-start : tie.Need-part-survey-line-start Inv-loop μ-loop
-part-survey-line-start c = omega (arith, c .before .loop .inv .within)
+part-rest-start : tie.Need-part-rest-start Inv-loop μ-loop
+part-rest-start c = omega (arith, c .before .loop .inv .within)
 
 -- scanline k is surveyed: what its laws take
 abbrev line : tie.After-survey-line Inv-loop μ-loop → tie.In-loop Inv-loop μ-loop
-line v = v .before .before .before
+line v = v .before .before .before .before .before
 
 returns : tie.Need-returns Inv-loop μ-loop
 returns c =
@@ -45,10 +40,13 @@ returns c =
     let l = t .before .loop in
     let s = start t in
     let x = v .survey-line .ensures in
+    let n = v .before .before in
+    let met = n .before .rollover-met .ensures in
+    let wanted = n .line-number .ensures in
     let r = rasterOf (s .args .l) (s .args .bytes .now) in
     let typed = t .before .before .before .before .other-type .ensures in (
-      survey-refused r (l .at) (l .partway) (l .long) (l .size) (l .row) (l .k) (l .inv) (t .loop-test .taken) typed (x .0) (c .if1 .taken),
-      row-kept r (l .at) (l .partway) (l .long) (l .size) (l .row) (l .k) (l .inv) (t .loop-test .taken) typed (x .0) (x .1) ∙ sym (s .pre .wide),
+      survey-refused r (l .at) (l .rollover) (l .partway) (l .long) (l .size) (l .row) (l .k) (l .inv) (t .loop-test .taken) typed met wanted (x .0) (c .if1 .taken),
+      row-kept r (l .at) (l .rollover) (l .partway) (l .long) (l .size) (l .row) (l .k) (l .inv) (t .loop-test .taken) typed met wanted (x .0) (x .1) ∙ sym (s .pre .wide),
     )
 
 -- it is good
@@ -64,11 +62,14 @@ good c =
     let l = t .before .loop in
     let s = start t in
     let x = v .survey-line .ensures in
+    let n = v .before .before in
+    let met = n .before .rollover-met .ensures in
+    let wanted = n .line-number .ensures in
     let r = rasterOf (s .args .l) (s .args .bytes .now) in
     let typed = t .before .before .before .before .other-type .ensures in
     let head = t .before .before .before .body-start .ensures in (
-      used-within r (l .at) (l .partway) (l .long) (l .size) (l .row) (l .k) (l .inv) (t .loop-test .taken) typed (x .0) (c .if1 .left),
-      body-most r (l .at) (l .partway) (l .long) (l .size) (l .row) (l .k) (l .inv) (t .loop-test .taken) typed (x .0) (c .if1 .left) (s .pre .ppl-most) head,
+      used-within r (l .at) (l .rollover) (l .partway) (l .long) (l .size) (l .row) (l .k) (l .inv) (t .loop-test .taken) typed met wanted (x .0) (c .if1 .left),
+      body-most r (l .at) (l .rollover) (l .partway) (l .long) (l .size) (l .row) (l .k) (l .inv) (t .loop-test .taken) typed met wanted (x .0) (c .if1 .left) (s .pre .ppl-most) head,
     )
 
 add-size : tie.Need-add-size Inv-loop μ-loop
@@ -104,9 +105,12 @@ loop-again c =
     let l = t .before .loop in
     let s = start t in
     let x = v .survey-line .ensures in
+    let n = v .before .before in
+    let met = n .before .rollover-met .ensures in
+    let wanted = n .line-number .ensures in
     let r = rasterOf (s .args .l) (s .args .bytes .now) in
     let typed = t .before .before .before .before .other-type .ensures in
-    survey-next r (l .at) (l .partway) (l .long) (l .size) (l .row) (l .k) (l .inv) (t .loop-test .taken) typed (x .0) (e .if1 .left)
+    survey-next r (l .at) (l .rollover) (l .partway) (l .long) (l .size) (l .row) (l .k) (l .inv) (t .loop-test .taken) typed met wanted (x .0) (e .if1 .left)
     (s .pre .ppl-most) (t .before .before .before .body-start .ensures) (p .either .ensures) (w .bytes-to-words .ensures) (o .or-long .ensures) (x .1)
 
 returns-2 : tie.Need-returns-2 Inv-loop μ-loop
@@ -114,7 +118,7 @@ returns-2 c =
     let l = c .before .loop in
     let s = c .before .before .before .before .before .before .before in
     let r = rasterOf (s .args .l) (s .args .bytes .now) in (
-      survey-done r (l .at) (l .partway) (l .long) (l .size) (l .row) (l .k) (l .inv) (omega (arith, l .inv .low, c .loop-test .left)),
+      survey-done r (l .at) (l .rollover) (l .partway) (l .long) (l .size) (l .row) (l .k) (l .inv) (omega (arith, l .inv .low, c .loop-test .left)),
       l .inv .wide ∙ sym (s .pre .wide),
     )
 
@@ -128,11 +132,11 @@ survey-lines-spec =
     (λ c κs. search needs)
     (λ c. search needs)
     loop-holds
-    add-number
-    cast-number
-    sub-survey-line
-    part-survey-line-start
+    sub-rest
+    part-rest-start
     (λ c. search needs)
+    (λ c κs. search needs)
+    (λ c κs. search needs)
     (λ c κs. search needs)
     (λ c. search needs)
     returns

@@ -9,10 +9,10 @@ use Rattle.transcode.proofs.write_lines.Statement.{statement}
 use Rattle.transcode.proofs.write_lines.Tie as tie
 
 abbrev Inv-loop : tie.InvT-loop
-Inv-loop bytes l row₀ out₀ to n from₀ at₀ k₀ row out from at k = WrittenAt (rasterOf l bytes) from row out₀ out at k
+Inv-loop bytes l row₀ out₀ to n from₀ rollover₀ at₀ k₀ row out from rollover at k = WrittenAt (rasterOf l bytes) from rollover row out₀ out at k
 
 abbrev μ-loop : tie.MeasureT-loop
-μ-loop bytes l row₀ out₀ to n from₀ at₀ k₀ row out from at k = n - k
+μ-loop bytes l row₀ out₀ to n from₀ rollover₀ at₀ k₀ row out from rollover at k = n - k
 
 loop-holds : tie.Need-loop-holds Inv-loop μ-loop
 loop-holds c =
@@ -22,43 +22,42 @@ loop-holds c =
 abbrev start : tie.In-loop Inv-loop μ-loop → tie.Start Inv-loop μ-loop
 start c = c .before .before .before .before .before .before .before
 
-add-number : tie.Need-add-number Inv-loop μ-loop
-add-number c = omega (arith, start c .pre .0 .nol-most, c .loop-test .taken)
+sub-rest : tie.Need-sub-rest Inv-loop μ-loop
+sub-rest c = c .before .loop .inv .within
 
-cast-number : tie.Need-cast-number Inv-loop μ-loop
-cast-number c = omega (arith, start c .pre .0 .nol-most, c .loop-test .taken)
-
-sub-write-line : tie.Need-sub-write-line Inv-loop μ-loop
-sub-write-line c = c .before .loop .inv .within
-
-part-write-line-start : tie.Need-part-write-line-start Inv-loop μ-loop
-part-write-line-start c = omega (arith, c .before .loop .inv .within)
+part-rest-start : tie.Need-part-rest-start Inv-loop μ-loop
+part-rest-start c = omega (arith, c .before .loop .inv .within)
 
 -- where the new scanline is to stand
-room : (c : tie.In-loop Inv-loop μ-loop) → c .before .loop .at ≤ length (c .before .loop .out)
+abbrev looped : tie.After-line-number Inv-loop μ-loop → tie.In-loop Inv-loop μ-loop
+looped c = c .before .before .before
+
+room : (c : tie.After-line-number Inv-loop μ-loop) → looped c .before .loop .at ≤ length (looped c .before .loop .out)
 room c =
-    let s = start c in
-    let l = c .before .loop in
-    at-within (rasterOf (s .args .l) (s .args .bytes .now)) (l .from) (l .row) (s .args .out .now) (l .out) (l .at) (l .k) (l .inv) (c .loop-test .taken)
-    (s .pre .1) (c .before .before .before .other-type .ensures)
+    let t = looped c in
+    let s = start t in
+    let l = t .before .loop in
+    at-within (rasterOf (s .args .l) (s .args .bytes .now)) (l .from) (l .rollover) (l .row) (s .args .out .now) (l .out) (l .at) (l .k) (l .inv) (t .loop-test .taken)
+    (s .pre .1) (t .before .before .before .other-type .ensures) (c .before .rollover-met .ensures) (c .line-number .ensures)
 
-sub-write-line-2 : tie.Need-sub-write-line-2 Inv-loop μ-loop
-sub-write-line-2 c = room (c .before .before)
+sub-write-line : tie.Need-sub-write-line Inv-loop μ-loop
+sub-write-line c = room (c .before)
 
-part-write-line-start-2 : tie.Need-part-write-line-start-2 Inv-loop μ-loop
-part-write-line-start-2 c = omega (arith, room (c .before .before))
+part-write-line-start : tie.Need-part-write-line-start Inv-loop μ-loop
+part-write-line-start c = omega (arith, room (c .before))
 
 write-line-requires : tie.Need-write-line-requires Inv-loop μ-loop
 write-line-requires c κs =
-    let t = c .before .before .before in
+    let n = c .before .before in
+    let t = looped n in
     let s = start t in
     let l = t .before .loop in
-    line-fits (rasterOf (s .args .l) (s .args .bytes .now)) (l .from) (l .row) (s .args .out .now) (l .out) (l .at) (l .k) (l .inv) (t .loop-test .taken)
-    (s .pre .1) (t .before .before .before .other-type .ensures)
+    line-fits (rasterOf (s .args .l) (s .args .bytes .now)) (l .from) (l .rollover) (l .row) (s .args .out .now) (l .out) (l .at) (l .k) (l .inv) (t .loop-test .taken)
+    (s .pre .1) (t .before .before .before .other-type .ensures) (n .before .rollover-met .ensures) (n .line-number .ensures)
 
 -- it is written
 abbrev turn : tie.After-write-line Inv-loop μ-loop → tie.In-loop Inv-loop μ-loop
-turn w = w .before .before .before .before
+turn w = looped (w .before .before .before)
 
 ends : (w : tie.After-write-line Inv-loop μ-loop) →
     let l = turn w .before .loop in
@@ -70,9 +69,12 @@ ends w =
     let l = t .before .loop in
     let r = rasterOf (s .args .l) (s .args .bytes .now) in
     let typed = t .before .before .before .other-type .ensures in
+    let n = w .before .before .before in
+    let met = n .before .rollover-met .ensures in
+    let wanted = n .line-number .ensures in
     let x = w .write-line .ensures .0 in (
-      used-within r (l .from) (l .row) (s .args .out .now) (l .out) (l .at) (l .k) (l .inv) (t .loop-test .taken) (s .pre .1) typed x,
-      size-within r (l .from) (l .row) (s .args .out .now) (l .out) (l .at) (l .k) (l .inv) (t .loop-test .taken) (s .pre .1) typed x,
+      used-within r (l .from) (l .rollover) (l .row) (s .args .out .now) (l .out) (l .at) (l .k) (l .inv) (t .loop-test .taken) (s .pre .1) typed met wanted x,
+      size-within r (l .from) (l .rollover) (l .row) (s .args .out .now) (l .out) (l .at) (l .k) (l .inv) (t .loop-test .taken) (s .pre .1) typed met wanted x,
     )
 
 add-from : tie.Need-add-from Inv-loop μ-loop
@@ -99,9 +101,10 @@ loop-again c =
     let t = turn w in
     let s = start t in
     let l = t .before .loop in
+    let n = w .before .before .before in
     let x = w .write-line .ensures in
-    write-next (rasterOf (s .args .l) (s .args .bytes .now)) (l .from) (l .row) (s .args .out .now) (l .out) (l .at) (l .k) (l .inv) (t .loop-test .taken)
-    (s .pre .1) (t .before .before .before .other-type .ensures) (x .0) (x .1)
+    write-next (rasterOf (s .args .l) (s .args .bytes .now)) (l .from) (l .rollover) (l .row) (s .args .out .now) (l .out) (l .at) (l .k) (l .inv) (t .loop-test .taken)
+    (s .pre .1) (t .before .before .before .other-type .ensures) (n .before .rollover-met .ensures) (n .line-number .ensures) (x .0) (x .1)
 
 same-length : tie.Need-same-length Inv-loop μ-loop
 same-length c = c .before .loop .inv .wide ∙ sym (c .before .before .before .before .before .before .before .pre .0 .wide)
@@ -113,7 +116,7 @@ returns : tie.Need-returns Inv-loop μ-loop
 returns c =
     let s = c .before .before .before .before .before .before .before in
     let l = c .before .loop in
-    write-done (rasterOf (s .args .l) (s .args .bytes .now)) (l .from) (l .row) (s .args .out .now) (l .out) (l .at) (l .k) (l .inv)
+    write-done (rasterOf (s .args .l) (s .args .bytes .now)) (l .from) (l .rollover) (l .row) (s .args .out .now) (l .out) (l .at) (l .k) (l .inv)
     (omega (arith, l .inv .low, c .loop-test .left))
 
 pub write-lines-spec : {M : Type 1} → statement M
@@ -125,13 +128,13 @@ write-lines-spec =
     (λ c κs. search needs)
     (λ c. search needs)
     loop-holds
-    add-number
-    cast-number
+    sub-rest
+    part-rest-start
+    (λ c. search needs)
+    (λ c κs. search needs)
+    (λ c κs. search needs)
     sub-write-line
     part-write-line-start
-    (λ c. search needs)
-    sub-write-line-2
-    part-write-line-start-2
     (λ c. search needs)
     write-line-requires
     add-from

@@ -14,7 +14,7 @@ use Rattle.units.specs.laws.Numbers.{below-next}
 use Rattle.units.specs.laws.Parts.{rest-is}
 use Rattle.codec.specs.Table.{bodyBytes}
 use Rattle.layout.specs.Scanline.{headOf, bodyOf, Reading, Step, headedReading, stepOf, readingOf}
-use Rattle.layout.specs.Chain.{Raster, from, stepAt, start, reached, headAt, readingAt}
+use Rattle.layout.specs.Chain.{Raster, from, stepAt, start, reached, headAt, numberOf, readingAt}
 use Rattle.layout.specs.laws.Chain.{start-suc, reached-suc, reading-reached}
 use Rattle.layout.specs.laws.Line.{no-fault, not-lost, used-within, good-not-lost}
 use Rattle.scan_scanline.specs.Answer.{bodyStart}
@@ -93,9 +93,6 @@ module _ (r : Raster) (k at : ℕ) (here : at ≡ start r k) (there : reached r 
   pub lent-is : lent ≡ from r (start r k)
   lent-is = rest-is (r .bytes) at ∙ ap (from r) here
 
-  pub reading-is : readingAt r k ≡ readingOf (r .scn) (r .dataType) (r .ppl) (k + 1) lent
-  reading-is = reading-reached r k there ∙ ap (readingOf (r .scn) (r .dataType) (r .ppl) (k + 1)) (sym lent-is)
-
   pub head-is : headAt r k ≡ headOf lent
   head-is = ap headOf (sym lent-is)
 
@@ -111,41 +108,46 @@ module _ (r : Raster) (k at : ℕ) (here : at ≡ start r k) (there : reached r 
         length-drop at (r .bytes),
       )
 
-  -- a good one is not lost
-  module _ (good : readingAt r k .status ≡ 0) where
-    good-lent : readingOf (r .scn) (r .dataType) (r .ppl) (k + 1) lent .status ≡ 0
-    good-lent = sym (ap (λ (x : Reading). x .status) reading-is) ∙ good
+  -- by the number that it must have
+  module _ {number : ℕ} (wanted : number ≡ numberOf r k) where
+    pub reading-is : readingAt r k ≡ readingOf (r .scn) (r .dataType) (r .ppl) number lent
+    reading-is = reading-reached r k there ∙ (λ j. readingOf (r .scn) (r .dataType) (r .ppl) (sym wanted j) (sym lent-is j))
 
-    pub reached-next : reached r (suc k) ≡ true
-    reached-next =
-        let l : stepAt r (start r k) .lost ≡ false =
-        ap (λ (s : Step). s .lost) step-is ∙ good-not-lost (r .scn) (r .dataType) (r .ppl) lent (k + 1) good-lent in
-        reached-suc r k ∙ rw (there, l)
+    -- a good one is not lost
+    module _ (good : readingAt r k .status ≡ 0) where
+      good-lent : readingOf (r .scn) (r .dataType) (r .ppl) number lent .status ≡ 0
+      good-lent = sym (ap (λ (x : Reading). x .status) reading-is) ∙ good
 
-    pub start-next : {used : ℕ} → used ≡ stepOf (r .scn) (r .dataType) (r .ppl) lent .used .0 → at + used ≡ start r (suc k)
-    start-next e = omega (arith, here, e, ap (λ (s : Step). s .used .0) step-is, start-suc r k)
+      pub reached-next : reached r (suc k) ≡ true
+      reached-next =
+          let l : stepAt r (start r k) .lost ≡ false =
+          ap (λ (s : Step). s .lost) step-is ∙ good-not-lost (r .scn) (r .dataType) (r .ppl) lent number good-lent in
+          reached-suc r k ∙ rw (there, l)
 
-    pub eight-lent : r .scn ≡ 1 → length (headOf lent) ≡ 8
-    eight-lent one =
-        let g : headedReading (r .dataType) (r .ppl) (k + 1) lent .status ≡ 0 = rw one at good-lent in
-        head-eight (r .dataType) (r .ppl) (k + 1) lent g
+      pub start-next : {used : ℕ} → used ≡ stepOf (r .scn) (r .dataType) (r .ppl) lent .used .0 → at + used ≡ start r (suc k)
+      start-next e = omega (arith, here, e, ap (λ (s : Step). s .used .0) step-is, start-suc r k)
 
-    pub line-lent : newLineAt r k ≡ newLine (r .scn) (otherType (r .dataType)) (headOf lent) (readingOf (r .scn) (r .dataType) (r .ppl) (k + 1) lent .row)
-    line-lent =
-        (λ j. newLine (r .scn) (otherType (r .dataType)) (head-is j) (reading-is j .row))
+      pub eight-lent : r .scn ≡ 1 → length (headOf lent) ≡ 8
+      eight-lent one =
+          let g : headedReading (r .dataType) (r .ppl) number lent .status ≡ 0 = rw one at good-lent in
+          head-eight (r .dataType) (r .ppl) number lent g
 
-    pub length-line : {body : ℕ}
-        → body ≡ length (bodyBytes (otherType (r .dataType)) (r .scn) (readingOf (r .scn) (r .dataType) (r .ppl) (k + 1) lent .row))
-        → length (newLines r (suc k)) ≡ length (newLines r k) + (bodyStart (r .scn) + body)
-    length-line e =
-        omega (
-          arith,
-          ap length (lines-next r k),
-          length-append (newLines r k) (newLineAt r k),
-          ap length line-lent,
-          length-new (r .scn) (otherType (r .dataType)) (headOf lent) (readingOf (r .scn) (r .dataType) (r .ppl) (k + 1) lent .row) eight-lent,
-          e,
-        )
+      pub line-lent : newLineAt r k ≡ newLine (r .scn) (otherType (r .dataType)) (headOf lent) (readingOf (r .scn) (r .dataType) (r .ppl) number lent .row)
+      line-lent =
+          (λ j. newLine (r .scn) (otherType (r .dataType)) (head-is j) (reading-is j .row))
+
+      pub length-line : {body : ℕ}
+          → body ≡ length (bodyBytes (otherType (r .dataType)) (r .scn) (readingOf (r .scn) (r .dataType) (r .ppl) number lent .row))
+          → length (newLines r (suc k)) ≡ length (newLines r k) + (bodyStart (r .scn) + body)
+      length-line e =
+          omega (
+            arith,
+            ap length (lines-next r k),
+            length-append (newLines r k) (newLineAt r k),
+            ap length line-lent,
+            length-new (r .scn) (otherType (r .dataType)) (headOf lent) (readingOf (r .scn) (r .dataType) (r .ppl) number lent .row) eight-lent,
+            e,
+          )
 
 -- a new scanline is no longer than this, with the most pixels that a row can have
 start-most : (scn : ℕ) → bodyStart scn ≤ 8

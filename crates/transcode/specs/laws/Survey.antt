@@ -12,10 +12,12 @@ use Rattle.units.specs.Counts.{nBytes, wordsOfBytes}
 use Rattle.units.specs.Rules.{first}
 use Rattle.units.specs.Words.{wordCount}
 use Rattle.codec.specs.Table.{bodyBytes}
+use Rattle.numbering.specs.Numbering.{wantedNumber, rolloverMet}
 use Rattle.layout.specs.Scanline.{headOf, pixelOffset, Reading, readingOf}
-use Rattle.layout.specs.Chain.{Raster, start, reached, readingAt}
+use Rattle.layout.specs.Chain.{Raster, start, reached, numberOf, readingAt}
 use Rattle.layout.specs.laws.Chain.{start-zero, reached-zero, length-reading}
 use Rattle.layout.specs.laws.Line.{length-row}
+use Rattle.layout.specs.laws.Numbering.{RolloverKnown, number-met, known-next, known-first}
 use Rattle.scan_scanline.specs.Answer.{bodyStart, firstColumn}
 use Rattle.encode_answer.specs.declared.WriteAnswer.{WriteAnswer}
 use Rattle.encode_answer.specs.Sizes.{mostWords, answerBy}
@@ -27,7 +29,7 @@ use Rattle.transcode.specs.declared.Survey.{Survey}
 use Rattle.transcode.specs.File.{newLines}
 use Rattle.transcode.specs.Transcoding.{anyLine, isRefused, isPartway, isLong, lineRules}
 use Rattle.transcode.specs.laws.Answer.{oldRow, newSize, Ready, IsSurvey, Surveyed}
-use Rattle.transcode.specs.laws.Lines.{line-some, line-next, line-first, lines-first, lent, reading-is, head-is, next-within, reached-next, start-next, length-line, line-most}
+use Rattle.transcode.specs.laws.Lines.{line-some, line-next, line-first, lines-first, lent, lent-is, reading-is, head-is, next-within, reached-next, start-next, length-line, line-most}
 
 -- a first column that is not 0
 pub partway-by : (scn : ℕ) (rest : List ℕ) {column : ℕ} → column ≡ firstColumn scn rest
@@ -38,11 +40,12 @@ partway-by scn rest e = ap (λ (n : ℕ). not (eqb n 0)) e ∙ go (eqb scn 1)
     go true = refl
     go false = refl
 
-pub record SurveyAt (r : Raster) (at : ℕ) (partway long : Bool) (size : ℕ) (row : List ℕ) (k : ℕ) : Type 0 where
+pub record SurveyAt (r : Raster) (at rollover : ℕ) (partway long : Bool) (size : ℕ) (row : List ℕ) (k : ℕ) : Type 0 where
   pub low : k ≤ r .nol
   pub here : at ≡ start r k
   pub within : at ≤ length (r .bytes)
   pub there : reached r k ≡ true
+  pub known : RolloverKnown r k rollover
   pub good : anyLine (isRefused r) k ≡ false
   pub partway-is : partway ≡ anyLine (isPartway r) k
   pub long-is : long ≡ anyLine (isLong r) k
@@ -50,13 +53,14 @@ pub record SurveyAt (r : Raster) (at : ℕ) (partway long : Bool) (size : ℕ) (
   pub size-most : size ≤ 262152 * k
   pub wide : length row ≡ r .ppl
 
-pub survey-first : (r : Raster) (row : List ℕ) → Ready r row → SurveyAt r (r .dataStart) false false 0 row 0
+pub survey-first : (r : Raster) (row : List ℕ) → Ready r row → SurveyAt r (r .dataStart) 0 false false 0 row 0
 survey-first r row ready =
     record {
       low = zero-le;
       here = sym (start-zero r);
       within = ready .starts;
       there = reached-zero r;
+      known = known-first r 0;
       good = line-first (isRefused r);
       partway-is = sym (line-first (isPartway r));
       long-is = sym (line-first (isLong r));
@@ -65,24 +69,31 @@ survey-first r row ready =
       wide = ready .wide;
     }
 
-module _ (r : Raster) (at : ℕ) (partway long : Bool) (size : ℕ) (row : List ℕ) (k : ℕ) (now : SurveyAt r at partway long size row k) (more : k < r .nol)
-    {s : LineSurvey} {to : ℕ} (typed : to ≡ otherType (r .dataType))
-    (line : IsSurvey (r .scn) (r .dataType) (length row) (k + 1) to (lent r k at (now .here) (now .there)) s) where
+module _ (r : Raster) (at rollover : ℕ) (partway long : Bool) (size : ℕ) (row : List ℕ) (k : ℕ) (now : SurveyAt r at rollover partway long size row k)
+    (more : k < r .nol) {s : LineSurvey} {to met number : ℕ} (typed : to ≡ otherType (r .dataType))
+    (meets : met ≡ rolloverMet rollover k (lent r k at (now .here) (now .there))) (wanted : number ≡ wantedNumber met k)
+    (line : IsSurvey (r .scn) (r .dataType) (length row) number to (lent r k at (now .here) (now .there)) s) where
   abbrev rest : List ℕ
   rest = lent r k at (now .here) (now .there)
 
+  numbered : number ≡ numberOf r k
+  numbered =
+      wanted
+      ∙ ap (λ (n : ℕ). wantedNumber n k) meets
+      ∙ number-met r k rollover (now .known) (now .there) (lent-is r k at (now .here) (now .there))
+
   -- by the raster's width and the other type
-  surveyed : IsSurvey (r .scn) (r .dataType) (r .ppl) (k + 1) (otherType (r .dataType)) rest s
+  surveyed : IsSurvey (r .scn) (r .dataType) (r .ppl) number (otherType (r .dataType)) rest s
   surveyed =
-      subst (λ (p : ℕ). IsSurvey (r .scn) (r .dataType) p (k + 1) (otherType (r .dataType)) rest s) (now .wide)
-      (subst (λ (t : ℕ). IsSurvey (r .scn) (r .dataType) (length row) (k + 1) t rest s) typed line)
+      subst (λ (p : ℕ). IsSurvey (r .scn) (r .dataType) p number (otherType (r .dataType)) rest s) (now .wide)
+      (subst (λ (t : ℕ). IsSurvey (r .scn) (r .dataType) (length row) number t rest s) typed line)
 
   status-is : s .status ≡ readingAt r k .status
-  status-is = surveyed .status ∙ sym (ap (λ (x : Reading). x .status) (reading-is r k at (now .here) (now .there)))
+  status-is = surveyed .status ∙ sym (ap (λ (x : Reading). x .status) (reading-is r k at (now .here) (now .there) numbered))
 
   -- the row has its width still
-  pub row-kept : {row′ : List ℕ} → row′ ≡ oldRow (r .scn) (r .dataType) (length row) (k + 1) rest → length row′ ≡ r .ppl
-  row-kept e = ap length e ∙ length-row (r .scn) (r .dataType) (length row) rest (k + 1) ∙ now .wide
+  pub row-kept : {row′ : List ℕ} → row′ ≡ oldRow (r .scn) (r .dataType) (length row) number rest → length row′ ≡ r .ppl
+  row-kept e = ap length e ∙ length-row (r .scn) (r .dataType) (length row) rest number ∙ now .wide
 
   -- it is refused, and so the sheet is
   pub survey-refused : (s .status ≡ 0 → ⊥) → Surveyed r (record { refused = true; partway = partway; long = long; size = nBytes size })
@@ -105,26 +116,27 @@ module _ (r : Raster) (at : ℕ) (partway long : Bool) (size : ℕ) (row : List 
 
     pub body-most : r .ppl ≤ 65535 → {head : ℕ} → head ≡ bodyStart (r .scn) → head + s .body .0 ≤ 262152
     body-most p h =
-        let new = readingOf (r .scn) (r .dataType) (r .ppl) (k + 1) rest .row in
-        let l : length new ≡ r .ppl = sym (ap (λ (x : Reading). length (x .row)) (reading-is r k at (now .here) (now .there))) ∙ length-reading r k in
+        let new = readingOf (r .scn) (r .dataType) (r .ppl) number rest .row in
+        let l : length new ≡ r .ppl = sym (ap (λ (x : Reading). length (x .row)) (reading-is r k at (now .here) (now .there) numbered)) ∙ length-reading r k in
         omega (arith, h, surveyed .body, line-most (r .scn) (otherType (r .dataType)) new (omega arith))
 
     -- one scanline more
     pub survey-next : r .ppl ≤ 65535 → {head words : ℕ} {partway′ long′ : Bool} {row′ : List ℕ} → head ≡ bodyStart (r .scn)
         → partway′ ≡ (partway || s .partway) → words ≡ wordsOfBytes (s .body) .0 → long′ ≡ (long || ltb (mostWords .0) words)
-        → row′ ≡ oldRow (r .scn) (r .dataType) (length row) (k + 1) rest
-        → SurveyAt r (at + s .used .0) partway′ long′ (size + (head + s .body .0)) row′ (k + 1)
+        → row′ ≡ oldRow (r .scn) (r .dataType) (length row) number rest
+        → SurveyAt r (at + s .used .0) met partway′ long′ (size + (head + s .body .0)) row′ (k + 1)
     survey-next p {head} {words} {partway′} {long′} {row′} h a w b l =
-        let x = reading-is r k at (now .here) (now .there) in
+        let x = reading-is r k at (now .here) (now .there) numbered in
         let t = otherType (r .dataType) in
         let body : wordsOfBytes (s .body) .0 ≡ wordCount (bodyBytes t (r .scn) (readingAt r k .row)) .0 =
         ap (λ (n : ℕ). wordsOfBytes (nBytes n) .0) (surveyed .body ∙ sym (ap (λ (y : Reading). length (bodyBytes t (r .scn) (y .row))) x)) in
-        subst⁻¹ (λ (n : ℕ). SurveyAt r (at + s .used .0) partway′ long′ (size + (head + s .body .0)) row′ n) (add-one k)
+        subst⁻¹ (λ (n : ℕ). SurveyAt r (at + s .used .0) met partway′ long′ (size + (head + s .body .0)) row′ n) (add-one k)
         (record {
           low = more;
-          here = start-next r k at (now .here) (now .there) good-here (surveyed .used);
+          here = start-next r k at (now .here) (now .there) numbered good-here (surveyed .used);
           within = used-within;
-          there = reached-next r k at (now .here) (now .there) good-here;
+          there = reached-next r k at (now .here) (now .there) numbered good-here;
+          known = λ past next. meets ∙ known-next r k rollover (now .known) (now .there) (lent-is r k at (now .here) (now .there)) past next;
           good = line-next (isRefused r) k ∙ ap₂ _||_ (now .good) (ap not (eq-eqb (readingAt r k .status) 0 good-here));
           partway-is =
               a
@@ -135,15 +147,15 @@ module _ (r : Raster) (at : ℕ) (partway long : Bool) (size : ℕ) (row : List 
           long-is = b ∙ ap₂ _||_ (now .long-is) (ap (ltb (mostWords .0)) (w ∙ body)) ∙ sym (line-next (isLong r) k);
           size-is =
               (λ j. now .size-is j + (h j + s .body .0))
-              ∙ sym (length-line r k at (now .here) (now .there) good-here (surveyed .body));
+              ∙ sym (length-line r k at (now .here) (now .there) numbered good-here (surveyed .body));
           size-most = omega (arith, now .size-most, body-most p h);
           wide = row-kept l;
         })
 
 -- none is refused
-pub survey-done : (r : Raster) (at : ℕ) (partway long : Bool) (size : ℕ) (row : List ℕ) (k : ℕ) → SurveyAt r at partway long size row k → k ≡ r .nol
+pub survey-done : (r : Raster) (at rollover : ℕ) (partway long : Bool) (size : ℕ) (row : List ℕ) (k : ℕ) → SurveyAt r at rollover partway long size row k → k ≡ r .nol
     → Surveyed r (record { refused = false; partway = partway; long = long; size = nBytes size })
-survey-done r at partway long size row k now e =
+survey-done r at rollover partway long size row k now e =
     record {
       refused = sym (ap (anyLine (isRefused r)) (sym e) ∙ now .good);
       partway = λ z. now .partway-is ∙ ap (anyLine (isPartway r)) e;

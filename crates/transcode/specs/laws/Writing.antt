@@ -19,17 +19,19 @@ use Rattle.units.specs.Words.{wordCount, twoBytes}
 use Rattle.units.specs.laws.Over.{over-fits}
 use Rattle.units.specs.laws.Parts.{tail-is, put-tail, put-next}
 use Rattle.codec.specs.Table.{bodyBytes}
+use Rattle.numbering.specs.Numbering.{wantedNumber, rolloverMet}
 use Rattle.layout.specs.Scanline.{headOf, Reading, stepOf}
-use Rattle.layout.specs.Chain.{Raster, start, reached, readingAt}
+use Rattle.layout.specs.Chain.{Raster, start, reached, numberOf, readingAt}
 use Rattle.layout.specs.laws.Chain.{start-zero, reached-zero}
 use Rattle.layout.specs.laws.Line.{length-row}
+use Rattle.layout.specs.laws.Numbering.{RolloverKnown, number-met, known-next, known-first}
 use Rattle.encode_answer.specs.Sizes.{mostWords}
 use Rattle.transcode_parts.specs.Headers.{otherType, fitted}
 use Rattle.transcode.specs.declared.LineSizes.{LineSizes}
 use Rattle.transcode.specs.File.{fittedHeader, newLine, newLineAt, newLines}
 use Rattle.transcode.specs.Transcoding.{anyLine, isRefused, isLong}
 use Rattle.transcode.specs.laws.Answer.{Ready, oldRow, LineFits, IsWritten, LinesFit}
-use Rattle.transcode.specs.laws.Lines.{line-none, lines-first, lines-next, length-new, lent, reading-is, next-within, reached-next, start-next, eight-lent, line-lent}
+use Rattle.transcode.specs.laws.Lines.{line-none, lines-first, lines-next, length-new, lent, lent-is, reading-is, next-within, reached-next, start-next, eight-lent, line-lent}
 
 -- a word put into the first of two lists
 pub word-first : (a b : List ℕ) (i w : ℕ) → i + 2 ≤ length a → sets (a ++ b) i (twoBytes w) ≡ sets a i (twoBytes w) ++ b
@@ -106,36 +108,45 @@ grows r (suc n) k h =
     (λ l. omega (arith, grows r n k (omega arith), ap length (lines-next r n), length-append (newLines r n) (newLineAt r n)))
     (eq-or-lt-of-le h)
 
-pub record WrittenAt (r : Raster) (from : ℕ) (row out₀ out : List ℕ) (at k : ℕ) : Type 0 where
+pub record WrittenAt (r : Raster) (from rollover : ℕ) (row out₀ out : List ℕ) (at k : ℕ) : Type 0 where
   pub low : k ≤ r .nol
   pub here : from ≡ start r k
   pub within : from ≤ length (r .bytes)
   pub there : reached r k ≡ true
+  pub known : RolloverKnown r k rollover
   pub wide : length row ≡ r .ppl
   pub at-is : at ≡ length (newLines r k)
   pub out-is : out ≡ newLines r k ++ drop at out₀
   pub same : length out ≡ length out₀
 
-pub write-first : (r : Raster) (row out : List ℕ) → Ready r row → WrittenAt r (r .dataStart) row out out 0 0
+pub write-first : (r : Raster) (row out : List ℕ) → Ready r row → WrittenAt r (r .dataStart) 0 row out out 0 0
 write-first r row out ready =
     record {
       low = zero-le;
       here = sym (start-zero r);
       within = ready .starts;
       there = reached-zero r;
+      known = known-first r 0;
       wide = ready .wide;
       at-is = sym (ap length (lines-first r));
       out-is = sym (ap (λ (l : List ℕ). l ++ out) (lines-first r));
       same = refl;
     }
 
-module _ (r : Raster) (from : ℕ) (row out₀ out : List ℕ) (at k : ℕ) (now : WrittenAt r from row out₀ out at k) (more : k < r .nol)
-    (fit : LinesFit r out₀) {to : ℕ} (typed : to ≡ otherType (r .dataType)) where
+module _ (r : Raster) (from rollover : ℕ) (row out₀ out : List ℕ) (at k : ℕ) (now : WrittenAt r from rollover row out₀ out at k) (more : k < r .nol)
+    (fit : LinesFit r out₀) {to met number : ℕ} (typed : to ≡ otherType (r .dataType))
+    (meets : met ≡ rolloverMet rollover k (lent r k from (now .here) (now .there))) (wanted : number ≡ wantedNumber met k) where
   abbrev rest : List ℕ
   rest = lent r k from (now .here) (now .there)
 
   abbrev old : List ℕ
-  old = oldRow (r .scn) (r .dataType) (length row) (k + 1) rest
+  old = oldRow (r .scn) (r .dataType) (length row) number rest
+
+  numbered : number ≡ numberOf r k
+  numbered =
+      wanted
+      ∙ ap (λ (n : ℕ). wantedNumber n k) meets
+      ∙ number-met r k rollover (now .known) (now .there) (lent-is r k from (now .here) (now .there))
 
   good-here : readingAt r k .status ≡ 0
   good-here =
@@ -143,13 +154,13 @@ module _ (r : Raster) (from : ℕ) (row out₀ out : List ℕ) (at k : ℕ) (now
 
   row-here : old ≡ readingAt r k .row
   row-here =
-      ap (λ (p : ℕ). oldRow (r .scn) (r .dataType) p (k + 1) rest) (now .wide)
-      ∙ sym (ap (λ (x : Reading). x .row) (reading-is r k from (now .here) (now .there)))
+      ap (λ (p : ℕ). oldRow (r .scn) (r .dataType) p number rest) (now .wide)
+      ∙ sym (ap (λ (x : Reading). x .row) (reading-is r k from (now .here) (now .there) numbered))
 
   line-here : newLine (r .scn) to (headOf rest) old ≡ newLineAt r k
   line-here =
-      (λ j. newLine (r .scn) (typed j) (headOf rest) (oldRow (r .scn) (r .dataType) (now .wide j) (k + 1) rest))
-      ∙ sym (line-lent r k from (now .here) (now .there) good-here)
+      (λ j. newLine (r .scn) (typed j) (headOf rest) (oldRow (r .scn) (r .dataType) (now .wide j) number rest))
+      ∙ sym (line-lent r k from (now .here) (now .there) numbered good-here)
 
   line-room : at + length (newLineAt r k) ≤ length out
   line-room =
@@ -175,7 +186,7 @@ module _ (r : Raster) (from : ℕ) (row out₀ out : List ℕ) (at k : ℕ) (now
   pub line-fits : LineFits (r .scn) to (headOf rest) old (midOf at (length out - at) out)
   line-fits =
       record {
-        eight = eight-lent r k from (now .here) (now .there) good-here;
+        eight = eight-lent r k from (now .here) (now .there) numbered good-here;
         room = omega (arith, line-room, tail-length, ap length line-here);
         counted =
             λ one.
@@ -189,7 +200,7 @@ module _ (r : Raster) (from : ℕ) (row out₀ out : List ℕ) (at k : ℕ) (now
       }
 
   module _ {s : LineSizes} {part : List ℕ}
-      (written : IsWritten (r .scn) (r .dataType) (length row) (k + 1) to rest (midOf at (length out - at) out) s part) where
+      (written : IsWritten (r .scn) (r .dataType) (length row) number to rest (midOf at (length out - at) out) s part) where
     used-is : s .used .0 ≡ stepOf (r .scn) (r .dataType) (r .ppl) rest .used .0
     used-is = written .used ∙ ap (λ (p : ℕ). stepOf (r .scn) (r .dataType) p rest .used .0) (now .wide)
 
@@ -201,7 +212,7 @@ module _ (r : Raster) (from : ℕ) (row out₀ out : List ℕ) (at k : ℕ) (now
 
     -- one scanline more
     pub write-next : {row′ : List ℕ} → row′ ≡ old
-        → WrittenAt r (from + s .used .0) row′ out₀ (putMid at (length out - at) out part) (at + s .size .0) (k + 1)
+        → WrittenAt r (from + s .used .0) met row′ out₀ (putMid at (length out - at) out part) (at + s .size .0) (k + 1)
     write-next {row′} l =
         let new = newLineAt r k in
         let size : s .size .0 ≡ length new = written .size ∙ ap length line-here in
@@ -216,13 +227,14 @@ module _ (r : Raster) (from : ℕ) (row out₀ out : List ℕ) (at k : ℕ) (now
           line-room,
           tail-length,
         ) in
-        subst⁻¹ (λ (n : ℕ). WrittenAt r (from + s .used .0) row′ out₀ (putMid at (length out - at) out part) (at + s .size .0) n) (add-one k)
+        subst⁻¹ (λ (n : ℕ). WrittenAt r (from + s .used .0) met row′ out₀ (putMid at (length out - at) out part) (at + s .size .0) n) (add-one k)
         (record {
           low = more;
-          here = start-next r k from (now .here) (now .there) good-here used-is;
+          here = start-next r k from (now .here) (now .there) numbered good-here used-is;
           within = used-within;
-          there = reached-next r k from (now .here) (now .there) good-here;
-          wide = ap length l ∙ length-row (r .scn) (r .dataType) (length row) rest (k + 1) ∙ now .wide;
+          there = reached-next r k from (now .here) (now .there) numbered good-here;
+          known = λ past next. meets ∙ known-next r k rollover (now .known) (now .there) (lent-is r k from (now .here) (now .there)) past next;
+          wide = ap length l ∙ length-row (r .scn) (r .dataType) (length row) rest number ∙ now .wide;
           at-is = (λ j. now .at-is j + size j) ∙ sym (ap length (lines-next r k) ∙ length-append (newLines r k) new);
           out-is =
               put-next (newLines r k) new out₀ out part at (sym (now .at-is)) (now .out-is) p
@@ -231,9 +243,9 @@ module _ (r : Raster) (from : ℕ) (row out₀ out : List ℕ) (at k : ℕ) (now
         })
 
 -- all are written
-pub write-done : (r : Raster) (from : ℕ) (row out₀ out : List ℕ) (at k : ℕ) → WrittenAt r from row out₀ out at k → k ≡ r .nol
+pub write-done : (r : Raster) (from rollover : ℕ) (row out₀ out : List ℕ) (at k : ℕ) → WrittenAt r from rollover row out₀ out at k → k ≡ r .nol
     → out ≡ newLines r (r .nol) ++ drop (length (newLines r (r .nol))) out₀
-write-done r from row out₀ out at k now e =
+write-done r from rollover row out₀ out at k now e =
     now .out-is
     ∙ ap (λ (m : ℕ). newLines r k ++ drop m out₀) (now .at-is)
     ∙ ap (λ (m : ℕ). newLines r m ++ drop (length (newLines r m)) out₀) e

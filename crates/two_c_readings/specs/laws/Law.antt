@@ -232,6 +232,7 @@ two-calls g₁ g₂ t =
       same-reached = t .same-reached;
       same-start = t .same-start;
       same-end = g₂ .end ∙ t .same-end ∙ sym (g₁ .end);
+      same-rollover = t .same-rollover;
       same-line = λ k h b. same-bytes g₁ g₂ k h (t .same-line k h b);
       no-body = λ k h b. same-bytes g₁ g₂ k h (t .no-body k h b);
     }

@@ -1,0 +1,4 @@
+pub mod Numbering
+pub mod Statement
+pub mod Table
+pub mod laws
