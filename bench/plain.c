@@ -35,7 +35,7 @@ static inline void put32(uint8_t *at, uint32_t value)
 
 /* The header. */
 
-enum { BLOCK = 512, TABLE = 768, TABLE_BYTES = 768, MOST_BYTES = 2147483647, MOST_SIDE = 65535 };
+enum { BLOCK = 512, TABLE = 768, TABLE_BYTES = 768, MOST_BYTES = 2147483647, MOST_PIXELS = 65535, MOST_LINES = 1000000 };
 
 struct header {
     uint32_t type, blocks, ppl, nol, drs, slo, scn, ctv, cte;
@@ -91,9 +91,9 @@ static uint32_t read_header(const uint8_t *file, size_t size, struct header *h)
         return 17;
     if (h->scn > 1)
         return 18;
-    if (h->ppl == 0 || h->ppl > MOST_SIDE)
+    if (h->ppl == 0 || h->ppl > MOST_PIXELS)
         return 19;
-    if (h->nol == 0 || h->nol > MOST_SIDE)
+    if (h->nol == 0 || h->nol > MOST_LINES)
         return 20;
     if (h->ctv > 2 || (h->ctv == 1 && h->blocks < 3))
         return 21;
@@ -311,9 +311,29 @@ static inline __attribute__((always_inline)) uint32_t read_body(uint32_t type, c
     }
 }
 
-/* Reads line k, from 0, that starts at a byte; moves the start on, or says that the line is lost. */
-static uint32_t read_headed(const uint8_t *file, size_t size, const struct header *h, uint32_t k,
-                            uint8_t *row, size_t *start, int *lost)
+/* The numbers of lines are one word each. After 65,535 they go on with 1 if line 65,536 has 1, else
+ * with 0, and so at every later roll. */
+struct numbers {
+    uint32_t next; /* what the next line should have; 65,536 where it is the one to roll */
+    int roll;      /* what the numbers go on with; below 0 until a line says it */
+};
+
+static const struct numbers FIRST_NUMBER = {1, -1};
+
+/* Whether a line that the chain has come to has its number; steps to the next. */
+static inline int has_number(struct numbers *numbers, uint32_t stored)
+{
+    if (numbers->next > 65535) {
+        if (numbers->roll < 0)
+            numbers->roll = stored == 1;
+        numbers->next = (uint32_t)numbers->roll;
+    }
+    return stored == numbers->next++;
+}
+
+/* Reads the next line, which starts at a byte; moves the start on, or says that the line is lost. */
+static uint32_t read_headed(const uint8_t *file, size_t size, const struct header *h,
+                            struct numbers *numbers, uint8_t *row, size_t *start, int *lost)
 {
     const uint8_t *head = file + *start;
     const size_t left = size - *start;
@@ -329,7 +349,7 @@ static uint32_t read_headed(const uint8_t *file, size_t size, const struct heade
         return 1;
     *lost = 0;
     *start += 4 + 2 * (size_t)follow;
-    if (get16(head + 4) != k + 1)
+    if (!has_number(numbers, get16(head + 4)))
         return 4;
     const uint32_t offset = get16(head + 6);
     if (offset == 0)
@@ -395,12 +415,13 @@ uint32_t plain_raster(const uint8_t *file, size_t file_size, uint8_t *pixels, si
         return 23;
     if (marks_size < h.nol)
         return 24;
+    struct numbers numbers = FIRST_NUMBER;
     size_t start = (size_t)h.blocks * BLOCK;
     uint32_t good = 0;
     int lost = 0;
     for (uint32_t k = 0; k < h.nol; k++) {
         uint8_t *row = pixels + k * row_size;
-        const uint32_t mark = h.scn == 1 ? read_headed(file, file_size, &h, k, row, &start, &lost)
+        const uint32_t mark = h.scn == 1 ? read_headed(file, file_size, &h, &numbers, row, &start, &lost)
                                          : read_open(file, file_size, &h, row, &start, &lost);
         marks[k] = (uint8_t)mark;
         if (mark == 0)
@@ -424,9 +445,9 @@ static uint32_t turn_rejection(uint32_t slo, uint32_t ppl, uint32_t nol, size_t 
 {
     if (slo > 7)
         return 17;
-    if (ppl == 0 || ppl > MOST_SIDE)
+    if (ppl == 0 || ppl > MOST_PIXELS)
         return 19;
-    if (nol == 0 || nol > MOST_SIDE)
+    if (nol == 0 || nol > MOST_LINES)
         return 20;
     const size_t needed = (size_t)ppl * nol;
     return read < needed ? 23 : filled < needed ? 31 : 0;
@@ -696,9 +717,9 @@ uint32_t plain_write(uint32_t type, uint32_t ppl, uint32_t nol, uint32_t slo, ui
         return 17;
     if (scn > 1)
         return 18;
-    if (ppl == 0 || ppl > MOST_SIDE)
+    if (ppl == 0 || ppl > MOST_PIXELS)
         return 19;
-    if (nol == 0 || nol > MOST_SIDE)
+    if (nol == 0 || nol > MOST_LINES)
         return 20;
     if (table_size != 0 && table_size != TABLE_BYTES)
         return 21;
@@ -724,7 +745,7 @@ uint32_t plain_write(uint32_t type, uint32_t ppl, uint32_t nol, uint32_t slo, ui
         if (scn == 1) {
             put16(head, 0x5900);
             put16(head + 2, (uint32_t)(at - head - 4) / 2);
-            put16(head + 4, k + 1);
+            put16(head + 4, k + 1); /* after 65,535 comes 0: a word wraps */
             put16(head + 6, 0);
         }
     }
@@ -739,7 +760,7 @@ uint32_t plain_move(const uint8_t *file, size_t file_size, uint8_t *out, size_t 
                     uint8_t *answer, size_t answer_size)
 {
     struct header h;
-    uint16_t row[MOST_SIDE];
+    uint16_t row[MOST_PIXELS];
     if (answer_size < 4)
         return 29;
     const uint32_t number = read_header(file, file_size, &h);
@@ -750,11 +771,12 @@ uint32_t plain_move(const uint8_t *file, size_t file_size, uint8_t *out, size_t 
     const uint32_t type = 10 - h.type;
     const size_t blocks = (size_t)h.blocks * BLOCK;
     uint64_t bytes = blocks + (uint64_t)h.nol * 8 * h.scn;
+    struct numbers numbers = FIRST_NUMBER;
     size_t longest = 0, start = blocks;
     int lost, indented = 0;
     for (uint32_t k = 0; k < h.nol; k++) {
         const size_t head = start;
-        const uint32_t mark = h.scn == 1 ? read_headed(file, file_size, &h, k, (uint8_t *)row, &start, &lost)
+        const uint32_t mark = h.scn == 1 ? read_headed(file, file_size, &h, &numbers, (uint8_t *)row, &start, &lost)
                                          : read_open(file, file_size, &h, (uint8_t *)row, &start, &lost);
         if (mark != 0)
             return 41;
@@ -776,12 +798,13 @@ uint32_t plain_move(const uint8_t *file, size_t file_size, uint8_t *out, size_t 
     put16(out + 4, type);
     uint8_t *at = out + blocks;
     start = blocks;
+    numbers = FIRST_NUMBER;
     for (uint32_t k = 0; k < h.nol; k++) {
         uint8_t *head = at;
         if (h.scn == 1) {
             memcpy(head, file + start, 8);
             at += 8;
-            read_headed(file, file_size, &h, k, (uint8_t *)row, &start, &lost);
+            read_headed(file, file_size, &h, &numbers, (uint8_t *)row, &start, &lost);
         } else {
             read_open(file, file_size, &h, (uint8_t *)row, &start, &lost);
         }
