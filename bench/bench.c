@@ -1,7 +1,8 @@
 /*
  * Times the functions of ingr.h against the same jobs in plain C and against a limit, work that
- * cannot be left out: see docs/PERFORMANCE.md. Prints a table of ratios. What both sides leave is
- * compared before anything is timed, and where it differs the run ends with status 1.
+ * cannot be left out: see docs/PERFORMANCE.md. Prints a table of ratios, and one of the time that a
+ * line takes in sheets of 65,535 lines and of 1,000,000. What both sides leave is compared before
+ * anything is timed, and where it differs the run ends with status 1.
  *
  *   bench            times everything; some minutes
  *   bench --quick    compares only, small sheets and calls by chance; some seconds
@@ -41,11 +42,13 @@ static void *memory(size_t size)
 
 /* What a job is given, and what it leaves. */
 
-static struct {
+static struct given {
     uint8_t *file; /* to be read or moved */
     size_t file_size;
     uint16_t *picture; /* to be written or turned */
     uint32_t type, ppl, nol, slo, scn;
+    uint32_t sheets; /* that are read or written one after the other */
+    int apart;       /* each has its own buffers; else all have the first's */
 } given;
 
 struct left {
@@ -86,6 +89,26 @@ static void write_raster(const struct side *side, struct left *to)
     to->result = side->write(given.type, given.ppl, given.nol, 4, given.scn, 0, NULL, 0, given.picture,
                              INGR_PIXELS(given.ppl, given.nol), to->big, to->big_size, to->answer,
                              sizeof to->answer);
+}
+
+static void read_sheets(const struct side *side, struct left *to)
+{
+    const size_t bytes = picture_bytes();
+    for (size_t i = 0; i < given.sheets; i++) {
+        const size_t place = given.apart ? i : 0;
+        to->result = side->raster(given.file + place * given.file_size, given.file_size, to->big + place * bytes, bytes,
+                                  to->marks + place * given.nol, given.nol, to->answer, sizeof to->answer);
+    }
+}
+
+static void write_sheets(const struct side *side, struct left *to)
+{
+    const size_t pixels = INGR_PIXELS(given.ppl, given.nol), room = INGR_WRITE_ROOM(given.ppl, given.nol);
+    for (size_t i = 0; i < given.sheets; i++) {
+        const size_t place = given.apart ? i : 0;
+        to->result = side->write(given.type, given.ppl, given.nol, 4, given.scn, 0, NULL, 0, given.picture + place * pixels,
+                                 pixels, to->big + place * room, room, to->answer, sizeof to->answer);
+    }
 }
 
 static void turn(const struct side *side, struct left *to)
@@ -267,9 +290,8 @@ static int wanted(const char *name)
     return *words == NULL;
 }
 
-/* Compares, and times where that is asked for. `expected`: the result, so that no row times a
- * rejection. */
-static void row(const struct job *job, const char *name, uint32_t expected)
+/* Compares. `expected`: the result, so that nothing times a rejection. */
+static void compare_expecting(const struct job *job, const char *name, uint32_t expected)
 {
     const uint32_t result = compare(job, name);
     if (result != expected) {
@@ -278,11 +300,21 @@ static void row(const struct job *job, const char *name, uint32_t expected)
         if (!quick)
             exit(1);
     }
+}
+
+/* Compares, and times where that is asked for. */
+static void row(const struct job *job, const char *name, uint32_t expected)
+{
+    compare_expecting(job, name, expected);
     if (!quick)
         time_row(job, name);
 }
 
 /* The rows. */
+
+/* How many lines of so many pixels sheets of narrow lines have: up to where their numbers roll, and as
+ * many as there can be. */
+enum { NARROW = 16, FEW = 65535, MANY = 1000000 };
 
 static const char *type_name(uint32_t type)
 {
@@ -292,6 +324,11 @@ static const char *type_name(uint32_t type)
 static const char *runs_name(int runs)
 {
     return runs == NOISE ? "" : runs == SHORT_RUNS ? ", very many a line" : runs == 2 ? ", 2 a line" : ", 61 a line";
+}
+
+static const char *lines_name(uint32_t nol)
+{
+    return nol <= 2000 ? "" : nol == FEW ? ", 65,535 lines of 16 pixels" : ", 1,000,000 lines of 16 pixels";
 }
 
 static const char *const DAMAGES[] = {"", ", each line a run short", ", every second line bad", ", lost in the middle"};
@@ -307,6 +344,8 @@ static void sides_of(uint32_t type, uint32_t ppl, uint32_t nol, uint32_t scn)
     given.type = type;
     given.ppl = quick && ppl > 300 ? ppl / 64 : ppl;
     given.nol = quick && nol > 300 ? nol / 64 : nol;
+    if (quick && nol == MANY)
+        given.nol = 131200; /* their numbers roll twice */
     given.scn = scn;
 }
 
@@ -328,7 +367,7 @@ static void reading(uint32_t type, uint32_t ppl, uint32_t nol, uint32_t scn, int
 {
     char name[160];
     snprintf(name, sizeof name, "read type %s%s%s%s%s", type_name(type), runs_name(runs), DAMAGES[damage],
-             scn == 1 ? ", headers" : "", nol > 2000 ? ", 65,535 lines of 16 pixels" : "");
+             scn == 1 ? ", headers" : "", lines_name(nol));
     if (!wanted(name))
         return;
     sides_of(type, ppl, nol, scn);
@@ -367,13 +406,29 @@ static void reading_halves(uint32_t type, int runs)
     row(&job, name, 0);
 }
 
-static void writing(uint32_t type, uint32_t scn, int runs)
+/* Line numbers that go on with 1; those that our writer makes go on with 0. */
+static void reading_rolled(uint32_t type, int runs)
 {
     char name[160];
-    snprintf(name, sizeof name, "write type %s%s%s", type_name(type), runs_name(runs), scn == 1 ? ", headers" : "");
+    snprintf(name, sizeof name, "read type %s%s, headers, numbers roll to 1%s", type_name(type), runs_name(runs), lines_name(MANY));
     if (!wanted(name))
         return;
-    sides_of(type, 20000, 2000, scn);
+    sides_of(type, NARROW, MANY, 1);
+    paint(given.picture, type, given.ppl, given.nol, runs);
+    make_file(NONE);
+    number_lines(given.file, 1);
+    lend(picture_bytes());
+    const struct job job = {read_raster, type <= 3 ? copy_file : store_pixels, NULL};
+    row(&job, name, 0);
+}
+
+static void writing(uint32_t type, uint32_t ppl, uint32_t nol, uint32_t scn, int runs)
+{
+    char name[160];
+    snprintf(name, sizeof name, "write type %s%s%s%s", type_name(type), runs_name(runs), scn == 1 ? ", headers" : "", lines_name(nol));
+    if (!wanted(name))
+        return;
+    sides_of(type, ppl, nol, scn);
     paint(given.picture, type, given.ppl, given.nol, runs);
     lend(INGR_WRITE_ROOM(given.ppl, given.nol));
     const struct job job = {write_raster, load_pixels, NULL};
@@ -424,6 +479,19 @@ static void small_calls(void)
         row(&colors, "color, Environ-V table of 256", 0);
 }
 
+static const uint32_t HEIGHTS[] = {FEW, MANY};
+
+static void narrow_rows(void)
+{
+    for (int i = 0; i < 2; i++)
+        for (uint32_t scn = 0; scn <= 1; scn++) {
+            reading(9, NARROW, HEIGHTS[i], scn, 2, NONE);
+            reading(2, NARROW, HEIGHTS[i], scn, NOISE, NONE);
+            reading(1, NARROW, HEIGHTS[i], scn, NOISE, NONE);
+        }
+    reading_rolled(2, NOISE);
+}
+
 static void all_rows(void)
 {
     static const int RUNS[] = {2, 61, SHORT_RUNS};
@@ -441,22 +509,22 @@ static void all_rows(void)
             reading(type, 20000, 2000, 1, 61, (enum damage)damage);
         reading(type, 20000, 2000, 0, 61, LOST_IN_THE_MIDDLE);
     }
-    for (uint32_t scn = 0; scn <= 1; scn++) {
-        reading(9, 16, 65535, scn, 2, NONE);
-        reading(2, 16, 65535, scn, NOISE, NONE);
-        reading(1, 16, 65535, scn, NOISE, NONE);
-    }
+    narrow_rows();
     reading_halves(1, NOISE);
     reading_halves(2, NOISE);
     reading_halves(9, 61);
     for (uint32_t scn = 0; scn <= 1; scn++) {
-        writing(1, scn, NOISE);
-        writing(1, scn, 61);
-        writing(2, scn, NOISE);
-        writing(3, scn, NOISE);
+        writing(1, 20000, 2000, scn, NOISE);
+        writing(1, 20000, 2000, scn, 61);
+        writing(2, 20000, 2000, scn, NOISE);
+        writing(3, 20000, 2000, scn, NOISE);
         for (uint32_t type = 9; type <= 10; type++)
             for (int i = 0; i < 3; i++)
-                writing(type, scn, RUNS[i]);
+                writing(type, 20000, 2000, scn, RUNS[i]);
+    }
+    for (int i = 0; i < 2; i++) {
+        writing(9, NARROW, HEIGHTS[i], 1, 2);
+        writing(2, NARROW, HEIGHTS[i], 1, NOISE);
     }
     for (uint32_t type = 1; type <= 9; type += 8)
         for (uint32_t scn = 0; scn <= 1; scn++)
@@ -469,6 +537,104 @@ static void all_rows(void)
     small_calls();
 }
 
+/* The time that a line takes: whether it grows with their number. As many lines are read or written in
+ * each of three shapes: one sheet of few lines again and again, which stays in a cache; fifteen of them,
+ * which are as much memory as the many; and one sheet of many. */
+
+enum { AGAIN, APART, TALL, SHAPES, SHEETS = 15 };
+static struct given shapes[SHAPES];
+
+/* Makes the three of the same lines: those of the first sheet over and over. */
+static void make_shapes(uint32_t type, uint32_t scn, int runs, uint32_t roll)
+{
+    uint8_t *const file = given.file;
+    sides_of(type, NARROW, FEW, scn);
+    paint(given.picture, type, NARROW, FEW, runs);
+    for (size_t i = (size_t)NARROW * FEW; i < (size_t)NARROW * MANY; i++)
+        given.picture[i] = given.picture[i - (size_t)NARROW * FEW];
+    make_file(NONE);
+    for (size_t i = 1; i < SHEETS; i++)
+        memcpy(file + i * given.file_size, file, given.file_size);
+    given.sheets = SHEETS;
+    given.apart = 0;
+    shapes[AGAIN] = given;
+    given.apart = 1;
+    shapes[APART] = given;
+    given.file += SHEETS * given.file_size;
+    given.nol = MANY;
+    given.sheets = 1;
+    make_file(NONE);
+    if (scn == 1)
+        number_lines(given.file, roll);
+    shapes[TALL] = given;
+    given.file = file;
+}
+
+/* Prints nanoseconds a line of both sides, and the many lines' to those of as much memory. */
+static void time_lines(const struct job *job, const char *name)
+{
+    static double took[2][SHAPES][MOST], grown[2][MOST];
+    const double began = now();
+    int count = 0;
+    while (count < LEAST || (count < MOST && now() - began < SECONDS)) {
+        for (int i = 0; i < 2 * SHAPES; i++) { /* each has its turn to be first */
+            const int turn = (count + i) % (2 * SHAPES), side = turn % 2, shape = turn / 2;
+            given = shapes[shape];
+            took[side][shape][count] = 1e9 * seconds(job, side) / given.sheets / given.nol;
+        }
+        for (int side = 0; side < 2; side++)
+            grown[side][count] = took[side][TALL][count] / took[side][APART][count];
+        count++;
+    }
+    for (int side = 0; side < 2; side++) {
+        printf("| %s, %s |", name, side == 0 ? "ours" : "plain C");
+        for (int shape = 0; shape < SHAPES; shape++) {
+            qsort(took[side][shape], (size_t)count, sizeof(double), rising);
+            printf(" %.1f |", quantile(took[side][shape], count, 0.5));
+        }
+        qsort(grown[side], (size_t)count, sizeof(double), rising);
+        printf(" %.2f | %.2f - %.2f |\n", quantile(grown[side], count, 0.5), quantile(grown[side], count, 0.25),
+               quantile(grown[side], count, 0.75));
+    }
+    fflush(stdout);
+}
+
+static void lines(int write, uint32_t type, uint32_t scn, int runs, uint32_t roll)
+{
+    static int headed;
+    const struct given before = given;
+    const struct job job = {write ? write_sheets : read_sheets, NULL, NULL};
+    char name[160], longer[200]; /* as the row of many lines is called; here the columns say how many */
+    snprintf(name, sizeof name, "%s type %s%s%s%s", write ? "write" : "read", type_name(type), runs_name(runs),
+             scn == 1 ? ", headers" : "", roll == 1 ? ", numbers roll to 1" : "");
+    snprintf(longer, sizeof longer, "%s%s", name, lines_name(MANY));
+    if (!wanted(longer))
+        return;
+    if (!headed++)
+        printf("\n| nanoseconds a line of 16 pixels | 65,535 lines | 15 sheets of 65,535 | 1,000,000 lines "
+               "| 1,000,000 / 15 sheets | quartiles |\n|---|---|---|---|---|---|\n");
+    make_shapes(type, scn, runs, roll);
+    lend(write ? INGR_WRITE_ROOM(NARROW, MANY) : INGR_PIXEL_BYTES(NARROW, MANY));
+    for (int shape = 0; shape < SHAPES; shape++) {
+        given = shapes[shape];
+        compare_expecting(&job, name, 0);
+    }
+    time_lines(&job, name);
+    given = before;
+}
+
+static void all_lines(void)
+{
+    for (uint32_t scn = 0; scn <= 1; scn++) {
+        lines(0, 9, scn, 2, 0);
+        lines(0, 2, scn, NOISE, 0);
+        lines(0, 1, scn, NOISE, 0);
+    }
+    lines(0, 2, 1, NOISE, 1);
+    lines(1, 9, 1, 2, 0);
+    lines(1, 2, 1, NOISE, 0);
+}
+
 int main(int argc, char **argv)
 {
     const size_t most_pixels = INGR_PIXELS(8000, 8000), most_file = INGR_WRITE_ROOM(20000, 2000);
@@ -478,12 +644,14 @@ int main(int argc, char **argv)
     given.picture = memory(2 * most_pixels);
     mine.big = memory(most_file + SPARE);
     theirs.big = memory(most_file + SPARE);
-    mine.marks = memory(65535 + SPARE);
-    theirs.marks = memory(65535 + SPARE);
+    mine.marks = memory(MANY + SPARE);
+    theirs.marks = memory(MANY + SPARE);
     if (!quick)
         printf("| job | ours / plain C | ours / limit | quartiles of ours / plain C |\n|---|---|---|---|\n");
     all_rows();
-    if (quick)
+    if (!quick)
+        all_lines();
+    else
         compared += compare_by_chance(100000, &unequal);
     free(given.file);
     free(given.picture);

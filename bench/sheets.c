@@ -15,10 +15,21 @@ uint32_t word(const uint8_t *at)
     return at[0] + 256u * at[1];
 }
 
+uint32_t double_word(const uint8_t *at)
+{
+    return word(at) + 65536u * word(at + 2);
+}
+
 void put_word(uint8_t *at, uint32_t value)
 {
     at[0] = (uint8_t)value;
     at[1] = (uint8_t)(value >> 8);
+}
+
+void put_double_word(uint8_t *at, uint32_t value)
+{
+    put_word(at, value);
+    put_word(at + 2, value >> 16);
 }
 
 /* A pixel that the type has, other than the one before. */
@@ -73,7 +84,7 @@ static void shorten(uint8_t *body, size_t words, uint32_t type)
 
 void spoil(uint8_t *file, size_t size, enum damage damage)
 {
-    const uint32_t type = word(file + 4), nol = word(file + 188), scn = file[195];
+    const uint32_t type = word(file + 4), nol = double_word(file + 188), scn = file[195];
     if (damage == NONE)
         return;
     if (scn == 0) { /* a run that is too long in the middle of the file: no line after it is found */
@@ -94,11 +105,21 @@ void spoil(uint8_t *file, size_t size, enum damage damage)
 
 void indent(uint8_t *file, uint32_t columns)
 {
-    const uint32_t nol = word(file + 188);
+    const uint32_t nol = double_word(file + 188);
     put_word(file + 184, word(file + 184) + columns);
     size_t at = 1024;
     for (uint32_t k = 0; k < nol; k++) {
         put_word(file + at + 6, columns);
+        at += 4 + 2 * word(file + at + 2);
+    }
+}
+
+void number_lines(uint8_t *file, uint32_t roll)
+{
+    const uint32_t nol = double_word(file + 188);
+    size_t at = 1024;
+    for (uint32_t k = 1; k <= nol; k++) {
+        put_word(file + at + 4, roll == 1 ? (k - 1) % 65535 + 1 : k);
         at += 4 + 2 * word(file + at + 2);
     }
 }
