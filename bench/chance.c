@@ -6,22 +6,27 @@
 #include "sheets.h"
 #include "sides.h"
 
-/* The widest line that is tried, and the largest buffers. */
-enum { WIDE = 65535, PIXELS = 2 * WIDE, BYTES = 16 * (PIXELS + SPARE) + 2048 };
+/* The most lines that are tried, of at most two pixels, and the largest buffers. (The widest lines are at
+ * most two of 65,535.) */
+enum { TALL = 131076, PIXELS = 2 * TALL, BYTES = 16 * (PIXELS + SPARE) + 2048 };
 
 /* What a call leaves; pixels, a file or an upright picture in `big`. */
 struct left {
     uint32_t result;
-    uint8_t marks[256], answer[64], big[BYTES];
+    uint8_t answer[64], marks[TALL + SPARE], big[BYTES];
 };
 
 static struct left mine, theirs;
-static size_t reach; /* how much of `big` calls are lent, and is compared */
+static size_t reach, marks_reach; /* how much of `big` and of `marks` calls are lent, and is compared */
 static uint8_t file[BYTES];
 static size_t file_size;
 static uint16_t picture[PIXELS];
 static unsigned long compared, unequal;
 static unsigned long results[64], marks[64], moved; /* how often each was met */
+
+/* Calls with more lines than a word counts that were not rejected; the files have scanline headers. */
+enum { WRITTEN, MOVED, TURNED, TALL_CALLS };
+static unsigned long tall[TALL_CALLS];
 
 /* Columns in which lines start, and how often each was met: by good lines, and the last two, which are
  * past the row, by lines marked 5. */
@@ -39,24 +44,44 @@ static unsigned mark_at(int start)
     return start < PAST_ROW ? 0 : 5;
 }
 
+/* Lines after line numbers have rolled, to 0 or to 1, and how often each was met: with the number that is
+ * wanted, or with another and so marked 4. */
+static struct {
+    uint32_t line, number, mark;
+    unsigned long met;
+} rolls[] = {{65536, 0, 0, 0},      {65536, 1, 0, 0},      {65536, 2, 4, 0},      {65537, 1, 0, 0},
+             {65537, 2, 0, 0},      {65537, 1, 4, 0},      {65537, 2, 4, 0},      {131070, 65534, 0, 0},
+             {131070, 65535, 0, 0}, {131071, 65535, 0, 0}, {131071, 1, 0, 0},     {131071, 1, 4, 0},
+             {131072, 0, 0, 0},     {131072, 2, 0, 0},     {131072, 0, 4, 0},     {131072, 1, 4, 0}};
+enum { ROLLS = sizeof rolls / sizeof *rolls };
+
+static void clear_side(struct left *side)
+{
+    memset(side, OLD, offsetof(struct left, marks) + marks_reach);
+    memset(side->big, OLD, reach);
+}
+
 static void clear(void)
 {
-    memset(&mine, OLD, offsetof(struct left, big) + reach);
-    memset(&theirs, OLD, offsetof(struct left, big) + reach);
+    clear_side(&mine);
+    clear_side(&theirs);
 }
 
 static void compare(const char *name)
 {
     compared++;
     results[theirs.result % 64]++;
-    if (memcmp(&mine, &theirs, offsetof(struct left, big) + reach) != 0 && unequal++ < 10)
+    if ((memcmp(&mine, &theirs, offsetof(struct left, marks) + marks_reach) != 0 ||
+         memcmp(mine.big, theirs.big, reach) != 0) && unequal++ < 10)
         printf("bench: %s: %u and %u, or other buffers\n", name, mine.result, theirs.result);
 }
+
+static int as_asked; /* whether numbers, lengths and sides are now never others */
 
 /* A number, now and then one near it or anything. */
 static uint32_t near_by(uint32_t number)
 {
-    switch (chance(40)) {
+    switch (as_asked ? 40 : chance(40)) {
     case 0:
         return number + 1;
     case 1:
@@ -70,10 +95,29 @@ static uint32_t near_by(uint32_t number)
     }
 }
 
+/* The most lines there can be, and one more; and sides whose product, or whose bytes, 32 bits cut to less:
+ * to 65,534, to 0 and to others. */
+static const uint32_t LONG_SIDES[][2] = {{1, 1000000}, {1, 1000001}, {65535, 65538}, {32768, 131072},
+                                         {32768, 65536}, {65535, 1000000}};
+
+static const uint32_t *long_sides(void)
+{
+    return LONG_SIDES[chance(sizeof LONG_SIDES / sizeof *LONG_SIDES)];
+}
+
+/* Sides, now and then others. */
+static void some_sides(uint32_t *ppl, uint32_t *nol)
+{
+    const uint32_t *sides = long_sides();
+    const int are_long = !as_asked && chance(16) == 0;
+    *ppl = are_long ? sides[0] : near_by(*ppl);
+    *nol = are_long ? sides[1] : near_by(*nol);
+}
+
 /* A length, now and then too short or longer; never more than there is. */
 static size_t length(size_t needed, size_t most)
 {
-    switch (chance(20)) {
+    switch (as_asked ? 20 : chance(20)) {
     case 0:
         needed -= needed > 0;
         break;
@@ -99,7 +143,9 @@ static void write_both(uint32_t type, uint32_t ppl, uint32_t nol, uint32_t scn)
 {
     static uint8_t table[1024];
     const uint32_t slo = near_by(chance(8)), drs = some_drs();
-    const uint32_t some_type = near_by(type), some_ppl = near_by(ppl), some_nol = near_by(nol), some_scn = near_by(scn);
+    const uint32_t some_type = near_by(type), some_scn = near_by(scn);
+    uint32_t some_ppl = ppl, some_nol = nol;
+    some_sides(&some_ppl, &some_nol);
     const size_t table_size = chance(3) ? 0 : length(768, sizeof table), pixels = length((size_t)ppl * nol, PIXELS);
     const size_t answer_size = length(4, sizeof mine.answer);
     if (chance(8) == 0)
@@ -119,6 +165,7 @@ static void write_both(uint32_t type, uint32_t ppl, uint32_t nol, uint32_t scn)
                              mine.big, room, mine.answer, answer_size);
     theirs.result = PLAIN.write(some_type, some_ppl, some_nol, slo, some_scn, drs, table, table_size, picture,
                                 pixels, theirs.big, room, theirs.answer, answer_size);
+    tall[WRITTEN] += theirs.result == 0 && some_scn == 1 && some_nol > 65535;
     compare("writing");
 }
 
@@ -137,6 +184,7 @@ static void move_both(void)
     mine.result = OURS.move(file, file_size, mine.big, room, mine.answer, answer_size);
     theirs.result = PLAIN.move(file, file_size, theirs.big, room, theirs.answer, answer_size);
     moved += theirs.result == 0;
+    tall[MOVED] += theirs.result == 0 && file[195] == 1 && double_word(file + 188) > 65535;
     compare("moving");
 }
 
@@ -178,27 +226,35 @@ static void start_partway(uint32_t type, uint32_t ppl, uint32_t nol)
 /* Cuts the file, or changes some bytes: in the header, in the first lines' headers or anywhere. */
 static void damage(void)
 {
-    static const uint16_t FIELDS[] = {0, 1, 2, 3, 4, 5, 184, 185, 186, 187, 188, 189, 192, 193, 194, 195, 511, 532, 533, 536, 537, 538};
+    static const uint16_t FIELDS[] = {0, 1, 2, 3, 4, 5, 184, 185, 186, 187, 188, 189, 190, 191, 192, 193, 194, 195, 511, 532, 533, 536, 537, 538};
     if (chance(6) == 0)
         file_size = chance(4) == 0 ? chance((uint32_t)file_size + 1) : file_size - chance((uint32_t)(file_size - 1024 < 20 ? file_size - 1023 : 20));
     if (file_size < 1024)
         return;
     if (chance(10) == 0)
         file[FIELDS[chance(sizeof FIELDS / sizeof *FIELDS)]] = (uint8_t)chance(chance(2) ? 4 : 256);
+    if (chance(30) == 0) {
+        const uint32_t *sides = long_sides();
+        put_double_word(file + 184, sides[0]);
+        put_double_word(file + 188, sides[1]);
+    }
     for (uint32_t i = chance(4); i > 0 && file_size > 1024; i--) {
         const uint32_t raster = (uint32_t)file_size - 1024;
         file[1024 + chance(chance(2) && raster > 24 ? 24 : raster)] = (uint8_t)chance(chance(2) ? 4 : 256);
     }
 }
 
-/* Counts the lines of a file with scanline headers that was read, by the columns in which they start. */
-static void count_starts(void)
+/* Counts the lines of a file with scanline headers that was read, by the columns in which they start and
+ * by the numbers that they have past the first roll. */
+static void count_lines(void)
 {
-    const uint32_t ppl = word(file + 184), nol = word(file + 188);
+    const uint32_t ppl = word(file + 184), nol = double_word(file + 188);
     size_t at = 2 * (size_t)(word(file + 2) + 2);
     for (uint32_t k = 0; k < nol && at + 8 <= file_size; k++) {
         for (int i = 0; i < STARTS; i++)
             starts[i] += word(file + at + 6) == column(i, ppl) && theirs.marks[k] == mark_at(i);
+        for (size_t i = 0; i < ROLLS && k >= 65535; i++)
+            rolls[i].met += rolls[i].line == k + 1 && rolls[i].number == word(file + at + 4) && rolls[i].mark == theirs.marks[k];
         at += 4 + 2 * word(file + at + 2);
     }
 }
@@ -206,7 +262,7 @@ static void count_starts(void)
 static void read_both(size_t pixels, size_t lines)
 {
     /* At odd addresses too. */
-    const size_t odd = chance(2), pixels_size = length(2 * pixels, reach - 1), marks_size = length(lines, sizeof mine.marks);
+    const size_t odd = chance(2), pixels_size = length(2 * pixels, reach - 1), marks_size = length(lines, marks_reach);
     const size_t answer_size = length(8, sizeof mine.answer), head_size = length(40, sizeof mine.answer);
     clear();
     mine.result = OURS.raster(file, file_size, mine.big + odd, pixels_size, mine.marks, marks_size, mine.answer, answer_size);
@@ -215,7 +271,7 @@ static void read_both(size_t pixels, size_t lines)
     for (size_t k = 0; k < lines && theirs.result <= 1; k++)
         marks[theirs.marks[k] % 64]++;
     if (theirs.result <= 1 && file[195] == 1)
-        count_starts();
+        count_lines();
     clear();
     mine.result = OURS.header(file, file_size, mine.answer, head_size);
     theirs.result = PLAIN.header(file, file_size, theirs.answer, head_size);
@@ -234,14 +290,78 @@ static void color_both(void)
 
 static void turn_both(uint32_t ppl, uint32_t nol)
 {
-    const uint32_t slo = near_by(chance(8)), some_ppl = near_by(ppl), some_nol = near_by(nol);
+    const uint32_t slo = near_by(chance(8));
+    uint32_t some_ppl = ppl, some_nol = nol;
+    some_sides(&some_ppl, &some_nol);
     const size_t read = length((size_t)ppl * nol, PIXELS), filled = length((size_t)ppl * nol, PIXELS);
     const int back = (int)chance(2);
     clear();
     uint16_t *my_pixels = (uint16_t *)(void *)mine.big, *their_pixels = (uint16_t *)(void *)theirs.big;
     mine.result = (back ? OURS.turn_back : OURS.turn)(slo, some_ppl, some_nol, picture, read, my_pixels, filled);
     theirs.result = (back ? PLAIN.turn_back : PLAIN.turn)(slo, some_ppl, some_nol, picture, read, their_pixels, filled);
+    tall[TURNED] += theirs.result == 0 && some_nol > 65535;
     compare("turning");
+}
+
+/* Where line k, from 1, of a file that is right starts. */
+static uint8_t *line_at(uint32_t k)
+{
+    uint8_t *at = file + 1024;
+    while (--k > 0)
+        at += 4 + 2 * word(at + 2);
+    return at;
+}
+
+/* Gives a line another number, if there is such a line. */
+static void renumber(uint32_t k, uint32_t number)
+{
+    if (k <= double_word(file + 188))
+        put_word(line_at(k) + 4, number);
+}
+
+/* Wrong numbers where they roll: another that decides, ones that would decide if the later rolls did, and
+ * some by chance; now and then a line there is lost. */
+static void renumber_rolls(uint32_t nol)
+{
+    static const uint32_t NUMBERS[] = {0, 1, 2, 65534, 65535};
+    const uint32_t lost = 65534 + chance(4);
+    if (chance(2))
+        renumber(65536, chance(2) ? chance(3) : chance(65536));
+    if (chance(2))
+        renumber(131071, 1);
+    if (chance(4))
+        renumber(131072, chance(2));
+    for (uint32_t i = chance(4); i > 0; i--)
+        renumber(chance(2) ? 65534 + chance(7) : 131068 + chance(9), NUMBERS[chance(5)]);
+    if (chance(16) == 0 && lost <= nol)
+        line_at(lost)[1] = 0;
+}
+
+/* A sheet of more lines than a word counts, or nearly: past the first roll or past the second, with numbers
+ * that roll to 0 or to 1; as it is, and then three times with wrong ones. */
+static void compare_tall(unsigned long which)
+{
+    static const uint32_t TYPES[] = {1, 9, 2, 1, 9, 3, 1, 9, 10};
+    const uint32_t type = TYPES[which % 9], scn = which % 7 < 6, ppl = 1 + chance(2), half = (uint32_t)(which / 2);
+    const uint32_t nol = which % 2 ? 131068 + half % 9 : 65534 + half % 7;
+    paint(picture, type, ppl, nol, NOISE);
+    reach = 16 * (size_t)nol + 2048;
+    marks_reach = nol + SPARE;
+    make_file(type, ppl, nol, scn);
+    for (int round = 0; round < 4; round++) {
+        if (scn == 1)
+            number_lines(file, round == 0 ? half % 2 : chance(2));
+        if (scn == 1 && round > 0)
+            renumber_rolls(nol);
+        else if (round > 0)
+            damage();
+        as_asked = chance(8) > 0; /* mostly, since there are few of them */
+        move_both();
+        read_both((size_t)ppl * nol, nol);
+    }
+    write_both(type, ppl, nol, scn);
+    turn_both(ppl, nol);
+    as_asked = 0;
 }
 
 /* Counts what was not met, so that nothing passes that looked at too little: every mark, every column
@@ -259,6 +379,16 @@ static void count_missing(void)
             printf("bench: no call gave %u\n", number);
             unequal++;
         }
+    for (size_t i = 0; i < ROLLS; i++)
+        if (rolls[i].met == 0) {
+            printf("bench: no line %u that has the number %u was marked %u\n", rolls[i].line, rolls[i].number, rolls[i].mark);
+            unequal++;
+        }
+    for (int i = 0; i < TALL_CALLS; i++)
+        if (tall[i] == 0) {
+            printf("bench: nothing of more than 65,535 lines was %s\n", i == WRITTEN ? "written" : i == MOVED ? "moved" : "turned");
+            unequal++;
+        }
     if (moved == 0) {
         printf("bench: nothing was moved\n");
         unequal++;
@@ -274,6 +404,8 @@ unsigned long compare_by_chance(unsigned long count, unsigned long *how_many)
 {
     static const uint32_t TYPES[] = {1, 2, 3, 9, 10};
     for (unsigned long i = 0; i < count; i++) {
+        if (i % 2500 == 0) /* rarely: they take as long as some thousand others */
+            compare_tall(i / 2500);
         const uint32_t type = TYPES[chance(5)], scn = chance(2);
         const int wide = chance(50) == 0; /* where runs are cut, and bodies too long */
         const uint32_t ppl = wide ? (chance(2) ? 65532 : 32765) + chance(4) : 1 + chance(chance(2) ? 9 : 200);
@@ -282,6 +414,7 @@ unsigned long compare_by_chance(unsigned long count, unsigned long *how_many)
         const uint32_t painted = type == 1 && chance(2) ? 9 : type;
         paint(picture, painted, ppl, nol, chance(3) ? (int)(1 + chance(wide ? 2 : 6)) : (int)chance(2) - 1);
         reach = 16 * ((size_t)ppl * nol + SPARE) + 2048; /* more than any of them needs */
+        marks_reach = 256;
         if (chance(16) == 0) {
             environ_v(file);
             file_size = ENVIRON_V_BYTES;
