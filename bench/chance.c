@@ -364,6 +364,21 @@ static void compare_tall(unsigned long which)
     as_asked = 0;
 }
 
+static void count_missing_tall(void)
+{
+    static const char *const NAMES[TALL_CALLS] = {"written", "moved", "turned"};
+    for (size_t i = 0; i < ROLLS; i++)
+        if (rolls[i].met == 0) {
+            printf("bench: no line %u that has the number %u was marked %u\n", rolls[i].line, rolls[i].number, rolls[i].mark);
+            unequal++;
+        }
+    for (int i = 0; i < TALL_CALLS; i++)
+        if (tall[i] == 0) {
+            printf("bench: nothing of more than 65,535 lines was %s\n", NAMES[i]);
+            unequal++;
+        }
+}
+
 /* Counts what was not met, so that nothing passes that looked at too little: every mark, every column
  * and every result but 10, for which files are too small. */
 static void count_missing(void)
@@ -379,16 +394,7 @@ static void count_missing(void)
             printf("bench: no call gave %u\n", number);
             unequal++;
         }
-    for (size_t i = 0; i < ROLLS; i++)
-        if (rolls[i].met == 0) {
-            printf("bench: no line %u that has the number %u was marked %u\n", rolls[i].line, rolls[i].number, rolls[i].mark);
-            unequal++;
-        }
-    for (int i = 0; i < TALL_CALLS; i++)
-        if (tall[i] == 0) {
-            printf("bench: nothing of more than 65,535 lines was %s\n", i == WRITTEN ? "written" : i == MOVED ? "moved" : "turned");
-            unequal++;
-        }
+    count_missing_tall();
     if (moved == 0) {
         printf("bench: nothing was moved\n");
         unequal++;
