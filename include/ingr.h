@@ -72,7 +72,7 @@ extern "C" {
 #define INGR_BAD_SCN 18
 /* PPL, pixels per line, is 0 or above 65,535. */
 #define INGR_BAD_PPL 19
-/* NOL, the number of lines, is 0 or above 65,535. */
+/* NOL, the number of lines, is 0 or above 1,000,000. */
 #define INGR_BAD_NOL 20
 /* CTV is above 2; or it is 1 and the header has fewer than 3 blocks; or it is 2 and CTE is outside
  * 1 to 256, or the entries run past the header. ingr_write: the table has neither 0 nor 768 bytes. */
@@ -117,7 +117,8 @@ extern "C" {
 #define INGR_MARK_IDENTIFIER 2
 /* W, words to follow, is below 2; it is lost. */
 #define INGR_MARK_WORDS_TO_FOLLOW 3
-/* The line number is not the one wanted, 1 in the first scanline and one more in each. */
+/* The line number is not the one wanted: 1 in the first scanline and one more in each. It is one
+ * word, so after 65,535 it rolls over: every time to 1 if scanline 65,536 has 1, else to 0. */
 #define INGR_MARK_LINE_NUMBER 4
 /* The pixel offset, the column of the body's first pixel, is above PPL. */
 #define INGR_MARK_PIXEL_OFFSET 5
@@ -148,18 +149,19 @@ extern "C" {
 #define INGR_WRITE_ANSWER 4
 #define INGR_MOVE_ANSWER 4
 
-/* The pixels of an image, and its bytes in ingr_raster. Neither overflows for PPL and NOL that a
- * header call has answered. */
+/* The pixels of an image, and its bytes in ingr_raster: at most 65,535 x 1,000,000 pixels of two
+ * bytes. Neither overflows a size_t, which has 64 bits, for PPL and NOL that a header call has
+ * answered. */
 #define INGR_PIXELS(ppl, nol) ((size_t)(ppl) * (size_t)(nol))
 #define INGR_PIXEL_BYTES(ppl, nol) (2 * INGR_PIXELS(ppl, nol))
 
-/* Bytes that are enough for a file that ingr_write makes, of any type, for PPL and NOL up to
- * 65,535. No file is longer than 2,147,483,647 bytes, so no output needs to be. */
+/* Bytes that are enough for a file that ingr_write makes, of any type, for PPL up to 65,535 and NOL
+ * up to 1,000,000. No file is longer than 2,147,483,647 bytes, so no output needs to be. */
 #define INGR_WRITE_ROOM(ppl, nol) ((size_t)1536 + (size_t)(nol) * (12 + 4 * (size_t)(ppl)))
 
 /* Bytes that are enough for what ingr_move makes of a file of so many bytes, with the PPL and NOL of
  * its header: the file's, which its header blocks are among, and for each scanline its header and a
- * word for each pixel and two more. */
+ * word for each pixel and two more. More than 2,147,483,647 are never needed. */
 #define INGR_MOVE_ROOM(file_size, ppl, nol) ((file_size) + (size_t)(nol) * (12 + 2 * (size_t)(ppl)))
 
 /* An IGDS color table: 256 times red, green, blue. */
@@ -297,7 +299,8 @@ uint32_t ingr_turn_back(uint32_t slo, uint32_t ppl, uint32_t nol,
  * INGR_WRITE_ROOM bytes are enough.
  *
  * 0: the first bytes of out are the file, and the first 4 bytes of answer are their number.
- * ingr_raster, given those bytes, gives back every pixel with every scanline good.
+ * ingr_raster, given those bytes, gives back every pixel with every scanline good. With scanline
+ * headers line numbers wrap to 0 after 65,535.
  *
  * Rejections: 29, then 16 to 21, 23, 26, 27 (SCN 1 only), 10 (the file to be written), 28.
  */
@@ -315,9 +318,10 @@ uint32_t ingr_write(uint32_t type, uint32_t ppl, uint32_t nol, uint32_t slo, uin
  *
  * 0: the first bytes of out are the moved file, and the first 4 bytes of answer are their number.
  * Its header blocks are those of the file but for DTC, the data type. Each scanline's header is the
- * one that it had, but for W, words to follow, which its new body needs. The bodies are those that
- * ingr_write makes of the same pixels. Bytes of the file after the last scanline are dropped.
- * ingr_raster gives the same pixels of both files.
+ * one that it had, but for W, words to follow, which its new body needs; line numbers are kept, to
+ * whichever of 0 and 1 they roll. The bodies are those that ingr_write makes of the same pixels.
+ * Bytes of the file after the last scanline are dropped. ingr_raster gives the same pixels of both
+ * files.
  *
  * Moved once more, a file of type 1 comes back byte for byte, and so does one of type 9 that has
  * the bodies of ingr_write, if nothing follows the last scanline and neither move is rejected.
