@@ -11,7 +11,7 @@
 #include <unistd.h>
 #include "ingr.h"
 
-/* A file of 1,024 bytes may say that it has 65,535 x 65,535 pixels: a viewer has a limit. */
+/* A file of 1,024 bytes may say that it has 65,535 x 1,000,000 pixels: a viewer has a limit. */
 #define MOST_BYTES ((size_t)1 << 30)
 
 static const char *const REASONS[] = {

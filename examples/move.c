@@ -9,6 +9,9 @@
 /* Files above this are not tried. */
 #define MOST_BYTES ((size_t)1 << 28)
 
+/* A header may say that there are 65,535 x 1,000,000 pixels, but no moved file is longer than this. */
+#define MOST_MOVED ((size_t)2147483647)
+
 static uint8_t file[MOST_BYTES + 1];
 
 /* Reads a whole file, and answers its bytes; more than MOST_BYTES where it could not be read. */
@@ -44,6 +47,8 @@ int main(int argc, char **argv)
     /* A file that is rejected needs no room: the move says why. */
     if (ingr_header(file, size, head, sizeof head) == 0)
         room = INGR_MOVE_ROOM(size, INGR_NUMBER(head, INGR_HEADER_PPL), INGR_NUMBER(head, INGR_HEADER_NOL));
+    if (room > MOST_MOVED)
+        room = MOST_MOVED;
     if (room > 0 && (out = malloc(room)) == NULL) {
         fprintf(stderr, "move: no memory\n");
         return 2;

@@ -131,11 +131,13 @@ try "no argument" complains
 try "two arguments" complains samples/gray.cot samples/gray.cot
 try "a missing file" complains "$room/missing.rle"
 try "a directory" complains samples
-# A header that promises more pixels than the example has room for.
-head -c 1024 samples/gray.cot >"$room/huge.cot"
-printf '\377\377\0\0\377\377\0\0' | dd of="$room/huge.cot" bs=1 seek=184 conv=notrunc status=none
-no_room() { [ "$("$room/minimal_gcc" "$room/huge.cot"; echo $?)" = "no room for 65535 x 65535 pixels"$'\n'2 ]; }
-try "65,535 x 65,535 pixels in 1,024 bytes" no_room
+# Headers that promise more pixels than the example has room for: 65,535 x 1,000,000, and as many and a line, which are rejected.
+huge() { head -c 1024 "$1" >"$room/huge" && printf "\\377\\377\\0\\0$2\\102\\017\\0" | dd of="$room/huge" bs=1 seek=184 conv=notrunc status=none; }
+says() { [ "$("$room/minimal_gcc" "$room/huge"; echo $?)" = "$1"$'\n'2 ]; }
+huge samples/gray.cot '\100'
+try "65,535 x 1,000,000 pixels in 1,024 bytes" says "no room for 65535 x 1000000 pixels"
+huge samples/gray.cot '\101'
+try "1,000,001 lines" says "rejected 20"
 
 # The move by its example: samples and the peer's bi-level sheet to the other type and back, and files that are rejected.
 for compiler in gcc clang; do
@@ -162,6 +164,10 @@ try "a file with a spare bit is not moved" rejected 41 samples/packed_damaged.da
 try "a file with offsets is not moved" rejected 42 samples/margin.rle
 : >"$room/empty"
 try "an empty file is not moved" rejected 11 "$room/empty"
+huge samples/boundary.rle '\100'
+try "a file without its 1,000,000 lines is not moved" rejected 41 "$room/huge"
+huge samples/boundary.rle '\101'
+try "1,000,001 lines are not moved" rejected 20 "$room/huge"
 
 # Files that are cut off, under valgrind.
 cut_sample=samples/boundary_damaged.rle
