@@ -4,7 +4,8 @@
  * ones at odd addresses, and with ones that are too short. Compared: that both give the same, that
  * nothing past what is written changes, that a rejected call changes nothing, and that what was
  * read is written, turned and turned back as it was; and that a file that is moved reads as it did
- * and comes back. Exit status 0 where all is so.
+ * and comes back. Then a raster of more lines than a word counts, with line numbers that roll to 0 and
+ * to 1, and the most lines that there can be. Exit status 0 where all is so.
  */
 #define _GNU_SOURCE /* MAP_ANONYMOUS */
 #include <stdio.h>
@@ -24,15 +25,16 @@ static void check(int right, const char *what)
         printf("c_guard: wrong: %s\n", what);
 }
 
-/* The end of ROOM bytes, after which nothing may be touched. */
-static uint8_t *new_edge(void)
+/* The end of at least so many bytes, after which nothing may be touched. */
+static uint8_t *new_edge(size_t least)
 {
-    uint8_t *at = mmap(NULL, 2 * ROOM, PROT_READ | PROT_WRITE, MAP_PRIVATE | MAP_ANONYMOUS, -1, 0);
-    if (at == MAP_FAILED || mprotect(at + ROOM, ROOM, PROT_NONE) != 0) {
+    const size_t room = (least + ROOM - 1) / ROOM * ROOM;
+    uint8_t *at = mmap(NULL, room + ROOM, PROT_READ | PROT_WRITE, MAP_PRIVATE | MAP_ANONYMOUS, -1, 0);
+    if (at == MAP_FAILED || mprotect(at + room, ROOM, PROT_NONE) != 0) {
         perror("c_guard: mmap");
         exit(1);
     }
-    return at + ROOM;
+    return at + room;
 }
 
 /* The last bytes before an edge, as if they had been used before. */
@@ -252,14 +254,131 @@ static void longest(void)
     munmap(zeros, room);
 }
 
+/* A file of type 1 with more lines than a word counts, of two pixels, so that a scanline has ten bytes:
+ * its line numbers roll twice, to 0 or to 1. */
+enum { TALL = 131080, TALL_PIXELS = 2 * TALL, TALL_BYTES = 1024 + 10 * TALL };
+
+static const size_t TALL_ROOM = INGR_MOVE_ROOM((size_t)TALL_BYTES, 2, TALL);
+
+/* Each ends at an edge. */
+static uint8_t *tall_picture, *tall_file, *tall_moved, *tall_back, *tall_pixels, *tall_marks;
+
+static void make_tall(void)
+{
+    tall_picture = new_edge(2 * TALL_PIXELS) - 2 * TALL_PIXELS;
+    for (size_t i = 0; i < TALL_PIXELS; i++)
+        tall_picture[2 * i] = i % 3 == 0;
+    tall_file = new_edge(TALL_BYTES) - TALL_BYTES;
+    tall_moved = new_edge(TALL_ROOM) - TALL_ROOM;
+    tall_back = new_edge(TALL_BYTES) - TALL_BYTES;
+    tall_pixels = new_edge(2 * TALL_PIXELS) - 2 * TALL_PIXELS;
+    tall_marks = new_edge(TALL) - TALL;
+}
+
+static uint32_t tall_number(uint32_t line)
+{
+    const uint8_t *at = tall_file + 1024 + 10 * (size_t)(line - 1) + 4;
+    return at[0] + 256u * at[1];
+}
+
+static void set_number(uint32_t line, uint32_t number)
+{
+    uint8_t *at = tall_file + 1024 + 10 * (size_t)(line - 1) + 4;
+    at[0] = (uint8_t)number;
+    at[1] = (uint8_t)(number >> 8);
+}
+
+/* Reads it: every line must be good and have its pixels, or marked 4 and blank. Answers how many are good. */
+static uint32_t tall_good(const uint8_t *file, size_t size)
+{
+    uint8_t answer[INGR_RASTER_ANSWER];
+    uint32_t good = 0;
+    int right = 1;
+    memset(tall_pixels, OLD, 2 * TALL_PIXELS);
+    memset(tall_marks, OLD, TALL);
+    const uint32_t result = ingr_raster(file, size, tall_pixels, 2 * TALL_PIXELS, tall_marks, TALL, answer, sizeof answer);
+    for (size_t k = 0; k < TALL; k++) {
+        static const uint8_t BLANK[4];
+        const uint8_t *row = tall_marks[k] == INGR_MARK_GOOD ? tall_picture + 4 * k : BLANK;
+        good += tall_marks[k] == INGR_MARK_GOOD;
+        right = right && (tall_marks[k] == INGR_MARK_GOOD || tall_marks[k] == INGR_MARK_LINE_NUMBER) &&
+                memcmp(tall_pixels + 4 * k, row, 4) == 0;
+    }
+    check(right, "the lines of a tall raster");
+    check(result == (good < TALL) && INGR_NUMBER(answer, INGR_RASTER_GOOD) == good &&
+              INGR_NUMBER(answer, INGR_RASTER_END) == size, "the numbers of a tall raster");
+    return good;
+}
+
+/* Whether it is moved, keeps its numbers, reads as it did and comes back. */
+static int tall_returns(void)
+{
+    uint8_t answer[INGR_MOVE_ANSWER];
+    if (ingr_move(tall_file, TALL_BYTES, tall_moved, TALL_ROOM, answer, sizeof answer) != 0)
+        return 0;
+    const size_t size = INGR_NUMBER(answer, INGR_MOVE_LENGTH);
+    return tall_good(tall_moved, size) == TALL &&
+           ingr_move(tall_moved, size, tall_back, TALL_BYTES, answer, sizeof answer) == 0 &&
+           INGR_NUMBER(answer, INGR_MOVE_LENGTH) == TALL_BYTES && memcmp(tall_back, tall_file, TALL_BYTES) == 0;
+}
+
+static void tall(void)
+{
+    uint8_t answer[INGR_WRITE_ANSWER];
+    const uint16_t *picture = (const uint16_t *)(void *)tall_picture;
+    check(ingr_write(1, 2, TALL, 4, 1, 0, NULL, 0, picture, TALL_PIXELS, tall_file, TALL_BYTES, answer, sizeof answer) == 0 &&
+              INGR_NUMBER(answer, INGR_WRITE_LENGTH) == TALL_BYTES && tall_number(65535) == 65535 &&
+              tall_number(65536) == 0 && tall_number(65537) == 1 && tall_number(131072) == 0,
+          "a tall raster that is written");
+    check(tall_good(tall_file, TALL_BYTES) == TALL && tall_returns(), "numbers that roll to 0");
+    for (uint32_t k = 65536; k <= TALL; k++)
+        set_number(k, (k - 1) % 65535 + 1);
+    check(tall_good(tall_file, TALL_BYTES) == TALL && tall_returns(), "numbers that roll to 1");
+    set_number(131071, 0);
+    check(tall_good(tall_file, TALL_BYTES) == TALL - 1 && tall_marks[131070] == INGR_MARK_LINE_NUMBER &&
+              ingr_move(tall_file, TALL_BYTES, NULL, 0, answer, sizeof answer) == INGR_REFUSED_SCANLINE,
+          "a number that does not roll as the others");
+    set_number(65536, 2);
+    set_number(131071, 65535);
+    check(tall_good(tall_file, TALL_BYTES) == 65536 && tall_marks[131070] == INGR_MARK_GOOD,
+          "numbers that roll to 1 where line 65,536 has neither");
+}
+
+/* The file above with other sides: the most lines there can be and one more; and a product, in bytes
+ * another, that in 32 bits would be 0. */
+static void most_lines(void)
+{
+    static const uint32_t SIDES[][3] = {{2, 1000000, INGR_PIXELS_TOO_SHORT},    {2, 1000001, INGR_BAD_NOL},
+                                        {32768, 131072, INGR_PIXELS_TOO_SHORT}, {32768, 65536, INGR_PIXELS_TOO_SHORT},
+                                        {65535, 1000000, INGR_PIXELS_TOO_SHORT}};
+    uint8_t answer[INGR_HEADER_ANSWER];
+    for (size_t i = 0; i < sizeof SIDES / sizeof *SIDES; i++) {
+        const uint32_t ppl = SIDES[i][0], nol = SIDES[i][1], result = SIDES[i][2];
+        for (int byte = 0; byte < 4; byte++) {
+            tall_file[184 + byte] = (uint8_t)(ppl >> 8 * byte);
+            tall_file[188 + byte] = (uint8_t)(nol >> 8 * byte);
+        }
+        const uint32_t head = ingr_header(tall_file, TALL_BYTES, answer, sizeof answer);
+        check(result == INGR_BAD_NOL ? head == result : head == 0 && INGR_NUMBER(answer, INGR_HEADER_NOL) == nol,
+              "the header of many lines");
+        check(ingr_raster(tall_file, TALL_BYTES, NULL, 0, NULL, 0, answer, sizeof answer) == result &&
+                  ingr_write(3, ppl, nol, 0, 0, 0, NULL, 0, NULL, 0, NULL, 0, answer, sizeof answer) == result &&
+                  ingr_turn(0, ppl, nol, NULL, 0, NULL, 0) == result &&
+                  ingr_turn_back(0, ppl, nol, NULL, 0, NULL, 0) == result,
+              "many lines and no pixels");
+        check(ingr_move(tall_file, TALL_BYTES, NULL, 0, answer, sizeof answer) ==
+                  (result == INGR_BAD_NOL ? INGR_BAD_NOL : INGR_REFUSED_SCANLINE), "a move of many lines");
+    }
+}
+
 int main(int argc, char **argv)
 {
     static uint8_t whole[ROOM];
-    file_edge = new_edge();
-    pixel_edge = new_edge();
-    mark_edge = new_edge();
-    answer_edge = new_edge();
-    out_edge = new_edge();
+    file_edge = new_edge(ROOM);
+    pixel_edge = new_edge(ROOM);
+    mark_edge = new_edge(ROOM);
+    answer_edge = new_edge(ROOM);
+    out_edge = new_edge(ROOM);
     for (int i = 1; i < argc; i++) {
         FILE *stream = fopen(argv[i], "rb");
         const size_t full = stream == NULL ? 0 : fread(whole, 1, ROOM, stream);
@@ -284,6 +403,9 @@ int main(int argc, char **argv)
         }
     }
     longest();
+    make_tall();
+    tall();
+    most_lines();
     check(ingr_header(NULL, 0, last(answer_edge, INGR_HEADER_ANSWER), INGR_HEADER_ANSWER) == INGR_FILE_TOO_SHORT,
           "no file");
     printf("c_guard: %lu comparisons, %lu wrong\n", compared, wrong);

@@ -1,9 +1,9 @@
 /*
- * Shows the bounds of the stack: the calls of ingr.h, on rasters of the widest lines, in threads
- * that have INGR_STACK bytes of stack, for ingr_move INGR_MOVE_STACK, the thread's own among them,
- * and nothing below but memory that may not be touched. What is written is read back, turned, moved
- * and moved back, and compared. The last line is the deepest use that was seen of either; exit
- * status 0 where all is right.
+ * Shows the bounds of the stack: the calls of ingr.h, on rasters of the widest lines and on one of
+ * the most lines, in threads that have INGR_STACK bytes of stack, for ingr_move INGR_MOVE_STACK, the
+ * thread's own among them, and nothing below but memory that may not be touched. What is written is
+ * read back, turned, moved and moved back, and compared. The last line is the deepest use that was
+ * seen of either; exit status 0 where all is right.
  */
 #define _GNU_SOURCE /* MAP_ANONYMOUS */
 #include <pthread.h>
@@ -13,14 +13,18 @@
 #include <sys/mman.h>
 #include "ingr.h"
 
-enum { PPL = 65535, NOL = 40, COUNT = PPL * NOL };
+/* The widest lines, and the most lines, which have fewer pixels. */
+enum { PPL = 65535, NOL = 40, COUNT = PPL * NOL, TALL_PPL = 2, TALL_NOL = 1000000 };
+/* Room for a file of either. */
+static const size_t FILE_ROOM = INGR_WRITE_ROOM(TALL_PPL, TALL_NOL);
 /* Below the stack: more than any one frame is likely to step over. */
 static const size_t GUARD = (size_t)16 << 20;
 static const unsigned char UNTOUCHED = 0xA5;
 
 /* What a thread is given, and what its call returned. */
 static struct {
-    uint32_t type, scn, result;
+    uint32_t type, ppl, nol, scn, result;
+    size_t count; /* of pixels, PPL x NOL */
     uint8_t *file, *moved, *back, *marks, answer[INGR_HEADER_ANSWER];
     size_t file_size, moved_size, back_size;
     uint16_t *picture, *pixels, *upright;
@@ -31,13 +35,10 @@ static struct {
     size_t bytes;
 } deepest, deepest_move;
 
-/* Room for what is moved: a word for each pixel at most, and headers. */
-static const size_t MOVE_ROOM = INGR_MOVE_ROOM((size_t)1024, PPL, NOL);
-
 static void *do_write(void *none)
 {
-    job.result = ingr_write(job.type, PPL, NOL, 1, job.scn, 0, NULL, 0, job.picture, COUNT,
-                            job.file, INGR_WRITE_ROOM(PPL, NOL), job.answer, sizeof job.answer);
+    job.result = ingr_write(job.type, job.ppl, job.nol, 1, job.scn, 0, NULL, 0, job.picture, job.count,
+                            job.file, FILE_ROOM, job.answer, sizeof job.answer);
     job.file_size = INGR_NUMBER(job.answer, INGR_WRITE_LENGTH);
     return none;
 }
@@ -56,34 +57,33 @@ static void *do_color(void *none)
 
 static void *do_raster(void *none)
 {
-    job.result = ingr_raster(job.file, job.file_size, (uint8_t *)job.pixels,
-                             INGR_PIXEL_BYTES(PPL, NOL), job.marks, NOL, job.answer,
-                             sizeof job.answer);
+    job.result = ingr_raster(job.file, job.file_size, (uint8_t *)job.pixels, 2 * job.count,
+                             job.marks, job.nol, job.answer, sizeof job.answer);
     return none;
 }
 
 static void *do_turn(void *none)
 {
-    job.result = ingr_turn(1, PPL, NOL, job.pixels, COUNT, job.upright, COUNT);
+    job.result = ingr_turn(1, job.ppl, job.nol, job.pixels, job.count, job.upright, job.count);
     return none;
 }
 
 static void *do_turn_back(void *none)
 {
-    job.result = ingr_turn_back(1, PPL, NOL, job.upright, COUNT, job.pixels, COUNT);
+    job.result = ingr_turn_back(1, job.ppl, job.nol, job.upright, job.count, job.pixels, job.count);
     return none;
 }
 
 static void *do_move(void *none)
 {
-    job.result = ingr_move(job.file, job.file_size, job.moved, MOVE_ROOM, job.answer, sizeof job.answer);
+    job.result = ingr_move(job.file, job.file_size, job.moved, FILE_ROOM, job.answer, sizeof job.answer);
     job.moved_size = INGR_NUMBER(job.answer, INGR_MOVE_LENGTH);
     return none;
 }
 
 static void *do_move_back(void *none)
 {
-    job.result = ingr_move(job.moved, job.moved_size, job.back, MOVE_ROOM, job.answer, sizeof job.answer);
+    job.result = ingr_move(job.moved, job.moved_size, job.back, FILE_ROOM, job.answer, sizeof job.answer);
     job.back_size = INGR_NUMBER(job.answer, INGR_MOVE_LENGTH);
     return none;
 }
@@ -144,12 +144,20 @@ static int run_move(const char *name, void *(*call)(void *))
     return job.result == 0;
 }
 
-/* Lines of runs of 4 pixels, of 8 and so on, up to one run that is cut. */
+/* Lines of runs of 4 pixels, of 8 and so on, up to one run that is cut; of many lines each 64 start
+ * farther on in those. */
 static void paint(uint16_t *picture, uint32_t highest)
 {
-    for (size_t k = 0; k < NOL; k++)
-        for (size_t i = 0; i < PPL; i++)
-            picture[k * PPL + i] = (uint16_t)((i >> (k % 15 + 2)) % (highest + 1));
+    for (size_t k = 0; k < job.nol; k++)
+        for (size_t i = 0; i < job.ppl; i++)
+            picture[k * job.ppl + i] = (uint16_t)(((i + k / 64) >> (k % 15 + 2)) % (highest + 1));
+}
+
+static void sides(uint32_t ppl, uint32_t nol)
+{
+    job.ppl = ppl;
+    job.nol = nol;
+    job.count = INGR_PIXELS(ppl, nol);
 }
 
 /* Whether the raster of the picture is written, read, turned and turned back as it was. */
@@ -158,14 +166,14 @@ static int round_trip(uint32_t type, uint32_t scn, uint32_t highest)
     job.type = type;
     job.scn = scn;
     paint(job.picture, highest);
-    memset(job.pixels, 0xEE, sizeof *job.pixels * COUNT);
+    memset(job.pixels, 0xEE, sizeof *job.pixels * job.count);
     if (!run("ingr_write", do_write) || !run("ingr_header", do_header) ||
         !run("ingr_color", do_color) || !run("ingr_raster", do_raster) ||
-        memcmp(job.pixels, job.picture, sizeof *job.pixels * COUNT) != 0 || !run("ingr_turn", do_turn))
+        memcmp(job.pixels, job.picture, sizeof *job.pixels * job.count) != 0 || !run("ingr_turn", do_turn))
         return 0;
-    memset(job.pixels, 0xEE, sizeof *job.pixels * COUNT);
+    memset(job.pixels, 0xEE, sizeof *job.pixels * job.count);
     return run("ingr_turn_back", do_turn_back) &&
-           memcmp(job.pixels, job.picture, sizeof *job.pixels * COUNT) == 0;
+           memcmp(job.pixels, job.picture, sizeof *job.pixels * job.count) == 0;
 }
 
 /* Whether the same is moved to the other type, reads as it did, and comes back as it was. */
@@ -175,12 +183,12 @@ static int moved_trip(uint32_t type, uint32_t scn)
     if (!round_trip(type, scn, 1) || !run_move("ingr_move", do_move) || !run_move("ingr_move, back", do_move_back) ||
         job.back_size != job.file_size || memcmp(job.back, job.file, job.file_size) != 0)
         return 0;
-    memset(job.pixels, 0xEE, sizeof *job.pixels * COUNT);
+    memset(job.pixels, 0xEE, sizeof *job.pixels * job.count);
     job.file = job.moved;
     job.file_size = job.moved_size;
     const int read = run("ingr_raster", do_raster);
     job.file = file;
-    return read && memcmp(job.pixels, job.picture, sizeof *job.pixels * COUNT) == 0;
+    return read && memcmp(job.pixels, job.picture, sizeof *job.pixels * job.count) == 0;
 }
 
 /* The calls that look at a color table, on an Environ-V table of 256 entries: type 2, all zeros. */
@@ -208,17 +216,22 @@ static int with_table(void)
 
 int main(void)
 {
-    job.file = memory(INGR_WRITE_ROOM(PPL, NOL));
-    job.moved = memory(MOVE_ROOM);
-    job.back = memory(MOVE_ROOM);
-    job.marks = memory(NOL);
+    job.file = memory(FILE_ROOM);
+    job.moved = memory(FILE_ROOM);
+    job.back = memory(FILE_ROOM);
+    job.marks = memory(TALL_NOL);
     job.picture = memory(INGR_PIXEL_BYTES(PPL, NOL));
     job.pixels = memory(INGR_PIXEL_BYTES(PPL, NOL));
     job.upright = memory(INGR_PIXEL_BYTES(PPL, NOL));
+    sides(PPL, NOL);
     /* Lines of type 3 that are so wide have no scanline headers. */
-    const int right = round_trip(2, 0, 255) && round_trip(2, 1, 255) && round_trip(3, 0, 65535) &&
-                      moved_trip(1, 0) && moved_trip(1, 1) && moved_trip(9, 0) && moved_trip(9, 1) &&
-                      round_trip(10, 0, 65535) && round_trip(10, 1, 65535) && with_table();
+    int right = round_trip(2, 0, 255) && round_trip(2, 1, 255) && round_trip(3, 0, 65535) &&
+                moved_trip(1, 0) && moved_trip(1, 1) && moved_trip(9, 0) && moved_trip(9, 1) &&
+                round_trip(10, 0, 65535) && round_trip(10, 1, 65535) && with_table();
+    if (right) {
+        sides(TALL_PPL, TALL_NOL);
+        right = moved_trip(9, 1);
+    }
     if (!right)
         printf("c_stack: type %u, SCN %u: not as it should be\n", job.type, job.scn);
     printf("c_stack: at most %zu of %d bytes, in %s, and %zu of %d, in %s, the thread's own among them\n",
