@@ -11,7 +11,7 @@ use lib.Dec.{eqb}
 use Rattle.units.specs.Over.{zeros}
 use Rattle.layout.specs.Scanline.{reading, unreached}
 use Rattle.layout.specs.Chain.{Raster, sheetOf, reached, headAt, bodyAt, numberOf, readingAt, rows, statuses, goodCount}
-use Rattle.layout.specs.Reading.{rasterRejection, rasterReading, readNumbers, answerOf, pixelsAfter, marksAfter, countGood}
+use Rattle.layout.specs.Reading.{rasterRejection, rasterReading, readNumbers, pixelsAfter, marksAfter, countGood}
 use Rattle.layout.specs.laws.Chain.{reading-unreached, length-rows, length-statuses}
 use Rattle.layout.specs.laws.Reading.{good-counted}
 use Rattle.isolation.specs.Statement.{LineIs, OneReading}

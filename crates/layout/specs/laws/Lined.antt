@@ -10,7 +10,7 @@ use lib.ListN.{length, take, drop, length-append, replicate-append-replicate}
 use lib.Seq.{take-at, drop-at}
 use Rattle.units.specs.laws.Numbers.{below-next}
 use Rattle.units.specs.Over.{zeros}
-use Rattle.layout.specs.Scanline.{headOf, Reading, Step, stepOf, readingOf}
+use Rattle.layout.specs.Scanline.{headOf, Reading, stepOf, readingOf}
 use Rattle.layout.specs.Chain.{Raster, from, stepAt, start, reached, headAt, numberOf, readingAt, statuses, goodCount}
 use Rattle.layout.specs.laws.Chain.{start-zero, start-suc, reached-zero, reached-suc, reading-reached}
 use Rattle.layout.specs.laws.Numbering.{same-number}

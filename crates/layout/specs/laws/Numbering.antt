@@ -1,12 +1,12 @@
 -- The line numbers of a raster: what the chain knows, on its way, of the number in line 65,536.
 use Prim.Native.Nat.{ℕ, zero, suc, _≤_, _<_}
-use mathlib.Core.Path.{_≡_, refl, sym, _∙_, ap, subst⁻¹}
+use mathlib.Core.Path.{_≡_, refl, sym, _∙_, ap}
 use mathlib.Core.Bool.{Bool, true, false, false≢true}
 use mathlib.Core.Logic.{inl, inr}
 use mathlib.Core.List.{List}
 use native.Mathlib.Omega.{arith}
 use lib.Dec.{eqb}
-use borrow.Author.Tests.{eqb-true, eqb-false}
+use borrow.Author.Tests.{eqb-true}
 use Rattle.units.specs.laws.Numbers.{below-next}
 use Rattle.numbering.specs.Numbering.{firstPast, wantedNumber, storedNumber, rolloverMet}
 use Rattle.numbering.specs.laws.Numbering.{same-wanted, met-there, met-elsewhere}

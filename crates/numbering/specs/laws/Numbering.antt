@@ -1,5 +1,5 @@
 -- Laws of line numbers: below line 65,536, from there on, and from one line to the next.
-use Prim.Native.Nat.{ℕ, zero, suc, _+_, _%_, _≤_, _<_}
+use Prim.Native.Nat.{ℕ, suc, _+_, _%_, _≤_, _<_}
 use mathlib.Core.Path.{_≡_, refl, sym, _∙_, ap}
 use mathlib.Core.Bool.{Bool, true, false, cond}
 use mathlib.Core.List.{List}
@@ -7,7 +7,7 @@ use native.Mathlib.Omega.{arith}
 use lib.Dec.{eqb, ltb}
 use borrow.Author.Tests.{lt-ltb, le-ltb, ltb-true, ltb-false, eq-eqb, ne-eqb}
 use Rattle.numbering.specs.Numbering.{firstPast, wantedNumber, writtenNumber, storedNumber, rolloverMet}
-use Rattle.numbering.specs.Statement.{RollsOver, AllRollOver, WrittenWanted}
+use Rattle.numbering.specs.Statement.{AllRollOver, WrittenWanted}
 
 -- a line before 65,536 has its own number
 pub number-low : (rollover k : ℕ) → k < 65535 → wantedNumber rollover k ≡ k + 1

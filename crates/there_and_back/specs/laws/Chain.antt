@@ -2,15 +2,14 @@
 -- those whose bodies are as written are what stood in the first.
 use Prim.Native.Nat.{ℕ, zero, suc, _+_, _-_, _≤_, _<_}
 use mathlib.Core.Path.{_≡_, refl, sym, _∙_, ap, subst⁻¹}
-use mathlib.Core.Bool.{Bool, true, false, cond, false≢true}
-use mathlib.Core.Logic.{_⊎_, inl, inr}
-use mathlib.Core.List.{List, [], _++_, append-assoc}
+use mathlib.Core.Bool.{Bool, true, false, cond}
+use mathlib.Core.Logic.{inl, inr}
+use mathlib.Core.List.{List, [], _++_}
 use native.Mathlib.Omega.{arith}
-use borrow.Author.Tests.{eqb-true, eqb-false}
-use lib.ListN.{length, take, drop, length-append}
-use lib.Seq.{take-at, take-add, drop-drop}
+use borrow.Author.Tests.{eqb-true}
+use lib.ListN.{length, take, drop}
+use lib.Seq.{take-add, drop-drop}
 use lib.Dec.{eqb}
-use Rattle.units.specs.Counts.{nBytes}
 use Rattle.units.specs.Words.{wordCount}
 use Rattle.units.specs.laws.Below.{AllBelow}
 use Rattle.codec.specs.Table.{codecOf, isDataType, bodyBytes}
@@ -18,10 +17,10 @@ use Rattle.codec.specs.laws.RoundTrip.{ReadBack, read-back}
 use Rattle.numbering.specs.Numbering.{firstPast, storedNumber}
 use Rattle.numbering.specs.laws.Numbering.{same-wanted}
 use Rattle.layout.specs.Scanline.{bodyOf, pixelOffset, Reading, Step, stepOf, readingOf}
-use Rattle.layout.specs.Chain.{Raster, from, stepAt, start, reached, headAt, bodyAt, rolloverOf, numberOf, readingAt}
-use Rattle.layout.specs.laws.Chain.{start-zero, start-suc, reading-reached, reading-unreached, length-reading, start-within}
+use Rattle.layout.specs.Chain.{Raster, from, stepAt, start, reached, headAt, rolloverOf, numberOf, readingAt}
+use Rattle.layout.specs.laws.Chain.{start-zero, start-suc, reading-reached, reading-unreached, length-reading}
 use Rattle.layout.specs.laws.Numbering.{rollover-is}
-use Rattle.layout.specs.laws.Written.{Back, Heads, line-back}
+use Rattle.layout.specs.laws.Written.{Back, line-back}
 use Rattle.layout.specs.laws.Lined.{Lined, head-there, reads}
 use Rattle.transcode_parts.specs.Headers.{otherType}
 use Rattle.transcode.specs.File.{fittedHeader, newLine, newLineAt, newLines}

@@ -10,22 +10,18 @@ use lib.ListN.{length, take, drop, length-drop, take-append-drop, replicate-appe
 use lib.Seq.{sets, take-at, take-all, getD-take}
 use Rattle.units.specs.Over.{zeros}
 use Rattle.units.specs.LittleEndian.{u16At}
-use Rattle.units.specs.Rules.{first}
 use Rattle.units.specs.Words.{twoBytes}
 use Rattle.units.specs.laws.Rules.{first-later}
-use Rattle.fields.specs.declared.Fields.{Fields}
-use Rattle.fields.specs.Fields.{fieldsOf}
 use Rattle.header.specs.Rejections.{rulesTo22, rejectionTo22}
-use Rattle.header.specs.Reading.{fieldNumbers, headerReading}
+use Rattle.header.specs.Reading.{fieldNumbers}
 use Rattle.header.specs.laws.Accepted.{accepted}
 use Rattle.layout.specs.Chain.{Raster, sheetOf, start, numberOf, readingAt, rows, statuses, goodCount}
 use Rattle.layout.specs.Reading.{RasterNumbers, bufferRules, rasterRejection, answerOf, readNumbers, rasterReading, pixelsAfter, marksAfter}
 use Rattle.layout.specs.laws.Lined.{Lined, reads, statuses-are, good-are, end-is}
 use Rattle.transcode_parts.specs.Headers.{otherType}
 use Rattle.transcode.specs.File.{carriedHeader, newLineAt, newLines, transcoded}
-use Rattle.transcode.specs.Transcoding.{transcodeRejection}
 use Rattle.there_and_back.specs.Statement.{IsBytes, BodiesAsWritten, NothingFollows, ComesBack, ReadsAsBefore, AllReadAsBefore}
-use Rattle.there_and_back.specs.laws.Chain.{Movable, Moved, other-other, packed-written, lined, numbered, lines-again}
+use Rattle.there_and_back.specs.laws.Chain.{other-other, packed-written, lined, numbered, lines-again}
 use Rattle.there_and_back.specs.laws.Given.{Given, given, accepted-too, moved, same-start, same-lines}
 use Rattle.there_and_back.specs.laws.Header.{length-carried, is-split, fields-are}
 use Rattle.there_and_back.specs.laws.Line.{bytes-take}

@@ -2,12 +2,11 @@
 -- body as it is written makes the scanline that stands there.
 use Prim.Native.Nat.{ℕ, zero, suc, _+_, _-_, _*_, _%_, _≤_, _<_}
 use mathlib.Core.Path.{_≡_, refl, sym, _∙_, ap, ap₂}
-use mathlib.Core.Bool.{Bool, true, false, cond, false≢true}
-use mathlib.Core.Logic.{_⊎_, inl, inr}
-use mathlib.Core.List.{List, [], _++_}
+use mathlib.Core.Bool.{Bool, true, false, cond}
+use mathlib.Core.List.{List, _++_}
 use native.Mathlib.Omega.{arith}
 use borrow.Author.Tests.{ltb-true, eqb-true, eqb-false, ltb-false, not-false}
-use lib.ListN.{length, getD, take, drop, length-take, length-append, List·getD-eq-default}
+use lib.ListN.{length, getD, take, drop, length-take, List·getD-eq-default}
 use lib.Seq.{length-take-le, getD-take, getD-drop, take-add, length-sets}
 use lib.Dec.{eqb, ltb}
 use Rattle.units.specs.Counts.{bytesOfWords, wordBytes}
@@ -20,11 +19,11 @@ use Rattle.units.specs.laws.Over.{sets-misses}
 use Rattle.units.specs.laws.Below.{AllBelow, all-append}
 use Rattle.packing.specs.Packing.{packedCount}
 use Rattle.codec.specs.Codec.{rowOf, fault, kept}
-use Rattle.codec.specs.PackedPixels.{packedPixels, packedRules, spareSet}
-use Rattle.codec.specs.Table.{codecOf, bodyRules, bodyPixels, bodyExtent, bodyBytes}
+use Rattle.codec.specs.PackedPixels.{packedRules, spareSet}
+use Rattle.codec.specs.Table.{codecOf, bodyPixels, bodyExtent, bodyBytes}
 use Rattle.numbering.specs.Numbering.{storedNumber}
-use Rattle.layout.specs.Scanline.{headOf, bodyOf, following, lostRules, pixelOffset, bodyWidth, placementRules, rowPixels, Reading, reading, headedReading, openReading, headedStep, openStep, stepOf, readingOf, isLost}
-use Rattle.layout.specs.laws.Line.{NotLost, not-lost, is-not-lost, NoFault, no-fault, row-by-status, head-word}
+use Rattle.layout.specs.Scanline.{headOf, bodyOf, following, lostRules, pixelOffset, bodyWidth, placementRules, rowPixels, headedReading, openReading, headedStep, openStep, stepOf, readingOf, isLost}
+use Rattle.layout.specs.laws.Line.{NotLost, not-lost, is-not-lost, NoFault, no-fault, row-by-status}
 use Rattle.layout.specs.laws.Written.{Heads}
 use Rattle.transcode.specs.File.{fittedHeader, newLine}
 use Rattle.transcode.specs.laws.Lines.{head-eight}
