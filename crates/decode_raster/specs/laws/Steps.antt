@@ -79,8 +79,7 @@ module _ (r : Raster) (s : Storing (r .ppl)) (k : ℕ) (c : Chain) (h : ChainAt 
       let x = reading-reached r k u in
       let rest : take (length (r .bytes) - c .at) (from r (c .at)) ≡ from r (start r k) =
       rest-is (r .bytes) (c .at) ∙ ap (from r) (h .at) in
-      let n : number ≡ numberOf r k =
-      wanted ∙ ap (λ (y : ℕ). wantedNumber y k) met ∙ number-met r k (c .rollover) (h .rollover) u rest in
+      let n : number ≡ numberOf r k = number-met r k (c .rollover) (h .rollover) u rest met wanted in
       let there : IsScan (stepAt r (start r k)) (readingOf (r .scn) (r .dataType) (r .ppl) (numberOf r k) (from r (start r k))) l =
       subst (λ (m : ℕ). IsScan (stepAt r (start r k)) (readingOf (r .scn) (r .dataType) (r .ppl) m (from r (start r k))) l) n
       (subst (λ (b : List ℕ). IsScan (stepOf (r .scn) (r .dataType) (r .ppl) b) (readingOf (r .scn) (r .dataType) (r .ppl) number b) l) rest line) in
@@ -98,7 +97,7 @@ module _ (r : Raster) (s : Storing (r .ppl)) (k : ℕ) (c : Chain) (h : ChainAt 
                   ap (λ (g : ℕ). g + one) (h .good)
                   ∙ ap (λ (m : ℕ). goodCount r k + m) (counted ∙ ap oneIfGood y)
                   ∙ sym (good-suc r k);
-              rollover = λ past next. met ∙ known-next r k (c .rollover) (h .rollover) u rest past next;
+              rollover = known-next r k (c .rollover) (h .rollover) u rest met;
             });
         status = y;
         row-is =

@@ -48,29 +48,29 @@ same-number scn t p {a} {b} rest same = go (eqb scn 1) refl
 abbrev pub RolloverKnown : Raster → ℕ → ℕ → Type 0
 RolloverKnown r k known = 65535 < k → reached r k ≡ true → known ≡ rolloverOf r
 
-module _ (r : Raster) (k known : ℕ) (now : RolloverKnown r k known) (q : reached r k ≡ true) {rest : List ℕ} (there : rest ≡ from r (start r k)) where
-  met : 65535 ≤ k → rolloverMet known k rest ≡ rolloverOf r
-  met h =
+-- with what the chain meets at scanline k
+module _ (r : Raster) (k known : ℕ) (now : RolloverKnown r k known) (q : reached r k ≡ true) {rest : List ℕ} (there : rest ≡ from r (start r k))
+    {met : ℕ} (meets : met ≡ rolloverMet known k rest) where
+  met-is : 65535 ≤ k → met ≡ rolloverOf r
+  met-is h =
       elim (below-next 65535 k (omega arith)) [
-        | inl l ↦ met-elsewhere known k rest (λ e. omega arith) ∙ now l q
-        | inr e ↦ here e
+        | inl l ↦ meets ∙ met-elsewhere known k rest (λ e. omega arith) ∙ now l q
+        | inr e ↦
+            meets
+            ∙ ap (λ (j : ℕ). rolloverMet known j rest) (sym e)
+            ∙ met-there known rest
+            ∙ ap storedNumber there
+            ∙ sym (head-number (from r (start r k)))
+            ∙ ap (λ (j : ℕ). storedNumber (headAt r j)) (sym e)
+            ∙ sym (rollover-is r)
       ]
-    where
-      here : 65535 ≡ k → rolloverMet known k rest ≡ rolloverOf r
-      here e =
-          ap (λ (j : ℕ). rolloverMet known j rest) (sym e)
-          ∙ met-there known rest
-          ∙ ap storedNumber there
-          ∙ sym (head-number (from r (start r k)))
-          ∙ ap (λ (j : ℕ). storedNumber (headAt r j)) (sym e)
-          ∙ sym (rollover-is r)
 
-  -- so the number that scanline k must have is known, and the next one's
-  pub number-met : wantedNumber (rolloverMet known k rest) k ≡ numberOf r k
-  number-met = same-wanted (rolloverMet known k rest) (rolloverOf r) k met
+  -- the number that scanline k must have is known, and the next one's
+  pub number-met : {number : ℕ} → number ≡ wantedNumber met k → number ≡ numberOf r k
+  number-met wanted = wanted ∙ same-wanted met (rolloverOf r) k met-is
 
-  pub known-next : RolloverKnown r (suc k) (rolloverMet known k rest)
-  known-next h next = met (omega arith)
+  pub known-next : RolloverKnown r (suc k) met
+  known-next h next = met-is (omega arith)
 
 -- none is known where the chain starts, and none is wanted of a scanline that is not reached
 pub known-first : (r : Raster) (known : ℕ) → RolloverKnown r 0 known

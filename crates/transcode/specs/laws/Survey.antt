@@ -77,10 +77,7 @@ module _ (r : Raster) (at rollover : ℕ) (partway long : Bool) (size : ℕ) (ro
   rest = lent r k at (now .here) (now .there)
 
   numbered : number ≡ numberOf r k
-  numbered =
-      wanted
-      ∙ ap (λ (n : ℕ). wantedNumber n k) meets
-      ∙ number-met r k rollover (now .known) (now .there) (lent-is r k at (now .here) (now .there))
+  numbered = number-met r k rollover (now .known) (now .there) (lent-is r k at (now .here) (now .there)) meets wanted
 
   -- by the raster's width and the other type
   surveyed : IsSurvey (r .scn) (r .dataType) (r .ppl) number (otherType (r .dataType)) rest s
@@ -136,7 +133,7 @@ module _ (r : Raster) (at rollover : ℕ) (partway long : Bool) (size : ℕ) (ro
           here = start-next r k at (now .here) (now .there) numbered good-here (surveyed .used);
           within = used-within;
           there = reached-next r k at (now .here) (now .there) numbered good-here;
-          known = λ past next. meets ∙ known-next r k rollover (now .known) (now .there) (lent-is r k at (now .here) (now .there)) past next;
+          known = known-next r k rollover (now .known) (now .there) (lent-is r k at (now .here) (now .there)) meets;
           good = line-next (isRefused r) k ∙ ap₂ _||_ (now .good) (ap not (eq-eqb (readingAt r k .status) 0 good-here));
           partway-is =
               a

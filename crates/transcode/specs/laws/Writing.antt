@@ -143,10 +143,7 @@ module _ (r : Raster) (from rollover : ℕ) (row out₀ out : List ℕ) (at k : 
   old = oldRow (r .scn) (r .dataType) (length row) number rest
 
   numbered : number ≡ numberOf r k
-  numbered =
-      wanted
-      ∙ ap (λ (n : ℕ). wantedNumber n k) meets
-      ∙ number-met r k rollover (now .known) (now .there) (lent-is r k from (now .here) (now .there))
+  numbered = number-met r k rollover (now .known) (now .there) (lent-is r k from (now .here) (now .there)) meets wanted
 
   good-here : readingAt r k .status ≡ 0
   good-here =
@@ -233,7 +230,7 @@ module _ (r : Raster) (from rollover : ℕ) (row out₀ out : List ℕ) (at k : 
           here = start-next r k from (now .here) (now .there) numbered good-here used-is;
           within = used-within;
           there = reached-next r k from (now .here) (now .there) numbered good-here;
-          known = λ past next. meets ∙ known-next r k rollover (now .known) (now .there) (lent-is r k from (now .here) (now .there)) past next;
+          known = known-next r k rollover (now .known) (now .there) (lent-is r k from (now .here) (now .there)) meets;
           wide = ap length l ∙ length-row (r .scn) (r .dataType) (length row) rest number ∙ now .wide;
           at-is = (λ j. now .at-is j + size j) ∙ sym (ap length (lines-next r k) ∙ length-append (newLines r k) new);
           out-is =
