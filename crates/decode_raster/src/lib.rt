@@ -17,8 +17,7 @@ use layout::RasterLayout;
 use layout::answer_of;
 use layout::one_if_good;
 use layout::sheet_layout;
-use numbering::line_number;
-use numbering::rollover_met;
+use numbering::number_line;
 use slices::fill;
 
 // 0 where every scanline is good and 1 where not, or the number of the rejection; how many scanlines are good; and the
@@ -135,14 +134,13 @@ fn read_line(bytes: &[u8], l: RasterLayout, chain: Chain, k: usize, row: &mut [u
         };
     }
     let rest = &bytes[at..];
-    let rollover = rollover_met(chain.rollover, k, rest);
-    let number = line_number(rollover, k);
-    let line = read_scanline(l.scn, l.dtc, number, rest, row);
+    let numbered = number_line(chain.rollover, k, rest);
+    let line = read_scanline(l.scn, l.dtc, numbered.number, rest, row);
     Chain {
         at: at + line.used.0,
         lost: line.lost,
         good: chain.good + one_if_good(line.status),
         status: line.status,
-        rollover,
+        rollover: numbered.rollover,
     }
 }

@@ -20,8 +20,7 @@ use layout::RasterLayout;
 use layout::answer_of;
 use layout::one_if_good;
 use layout::sheet_layout;
-use numbering::line_number;
-use numbering::rollover_met;
+use numbering::number_line;
 use scan_scanline::body_start;
 use scan_scanline::is_regular;
 use scan_scanline::regular_size;
@@ -99,8 +98,8 @@ fn read_regular(bytes: &[u8], l: RasterLayout, pixels: &mut [u8], marks: &mut [u
     let mut k = 0;
     while k < n {
         let rest = &bytes[at..];
-        let met = rollover_met(rollover, k, rest);
-        if !is_regular(l.scn, line_number(met, k), size, rest) {
+        let numbered = number_line(rollover, k, rest);
+        if !is_regular(l.scn, numbered.number, size, rest) {
             break;
         }
         let from = k * width;
@@ -110,7 +109,7 @@ fn read_regular(bytes: &[u8], l: RasterLayout, pixels: &mut [u8], marks: &mut [u
         widen_words(&bytes[a..b], &mut pixels[from..to]);
         marks[k] = 0;
         at += size.0;
-        rollover = met;
+        rollover = numbered.rollover;
         k += 1;
     }
     Chain {
@@ -134,14 +133,13 @@ fn read_line(bytes: &[u8], l: RasterLayout, chain: Chain, k: usize, row: &mut [u
 {
     let at = chain.at;
     let rest = &bytes[at..];
-    let rollover = rollover_met(chain.rollover, k, rest);
-    let number = line_number(rollover, k);
-    let line = read_scanline_bytes(l.scn, l.dtc, number, rest, row);
+    let numbered = number_line(chain.rollover, k, rest);
+    let line = read_scanline_bytes(l.scn, l.dtc, numbered.number, rest, row);
     Chain {
         at: at + line.used.0,
         lost: line.lost,
         good: chain.good + one_if_good(line.status),
         status: line.status,
-        rollover,
+        rollover: numbered.rollover,
     }
 }

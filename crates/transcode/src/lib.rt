@@ -27,8 +27,7 @@ use encode_body::write_body;
 use header::rejection_to_22;
 use layout::RasterLayout;
 use layout::sheet_layout;
-use numbering::line_number;
-use numbering::rollover_met;
+use numbering::number_line;
 use scan_scanline::body_start;
 use scan_scanline::first_column;
 use transcode_parts::answer_by_lines;
@@ -142,8 +141,8 @@ fn survey_lines(bytes: &[u8], l: RasterLayout, row: &mut [u16]) -> Survey
     let mut k = 0;
     while k < n {
         let rest = &bytes[at..];
-        rollover = rollover_met(rollover, k, rest);
-        let line = survey_line(rest, l, line_number(rollover, k), to, row);
+        let numbered = number_line(rollover, k, rest);
+        let line = survey_line(rest, l, numbered.number, to, row);
         if line.status != 0 {
             return Survey {
                 refused: true,
@@ -156,6 +155,7 @@ fn survey_lines(bytes: &[u8], l: RasterLayout, row: &mut [u16]) -> Survey
         long = or_long(long, bytes_to_words(line.body));
         size += head + line.body.0;
         at += line.used.0;
+        rollover = numbered.rollover;
         k += 1;
     }
     Survey {
@@ -206,10 +206,10 @@ fn write_lines(bytes: &[u8], l: RasterLayout, row: &mut [u16], out: &mut [u8])
     let mut k = 0;
     while k < n {
         let rest = &bytes[from..];
-        rollover = rollover_met(rollover, k, rest);
-        let number = line_number(rollover, k);
-        let line = write_line(rest, l, number, to, row, &mut out[at..]);
+        let numbered = number_line(rollover, k, rest);
+        let line = write_line(rest, l, numbered.number, to, row, &mut out[at..]);
         from += line.used.0;
+        rollover = numbered.rollover;
         at += line.size.0;
         k += 1;
     }

@@ -22,7 +22,7 @@ at-within c =
 
 -- what is known where the scanline was read
 abbrev kept : tie.After-read-scanline → tie.Else1
-kept c = c .before .before .before .before .before
+kept c = c .before .before .before .before
 
 abbrev started : tie.After-read-scanline → tie.Start
 started c = kept c .before .before .before
@@ -32,7 +32,7 @@ line-read : (c : tie.After-read-scanline)
     → let s = started c in
     let rest = take (length (s .args .bytes .now) - s .args .chain .at) (drop (s .args .chain .at) (s .args .bytes .now)) in
     IsLine (stepOf (s .args .l .scn) (s .args .l .dtc) (s .args .l .ppl) rest)
-    (readingOf (s .args .l .scn) (s .args .l .dtc) (s .args .l .ppl) (c .before .before .line-number .result) rest)
+    (readingOf (s .args .l .scn) (s .args .l .dtc) (s .args .l .ppl) (c .before .before .number-line .result .number) rest)
     (c .read-scanline .result) (c .read-scanline .last .1 .1 .1 .1 .0)
 line-read c =
     let s = started c in
@@ -40,7 +40,7 @@ line-read c =
     subst
     (λ (p : ℕ).
     IsLine (stepOf (s .args .l .scn) (s .args .l .dtc) p rest)
-    (readingOf (s .args .l .scn) (s .args .l .dtc) p (c .before .before .line-number .result) rest)
+    (readingOf (s .args .l .scn) (s .args .l .dtc) p (c .before .before .number-line .result .number) rest)
     (c .read-scanline .result) (c .read-scanline .last .1 .1 .1 .1 .0))
     (s .pre .1 .1 .1 .1)
     (c .read-scanline .ensures)
@@ -59,18 +59,18 @@ sub-rest c = omega (arith, at-within c)
 part-rest-start : tie.Need-part-rest-start
 part-rest-start c = omega (arith, at-within c)
 
-add-t16 : tie.Need-add-t16
-add-t16 c =
+add-t15 : tie.Need-add-t15
+add-t15 c =
     let y = c .before .before .before in
     let s = started y in
     omega (
       arith,
-      next-within (rasterOf (s .args .l) (s .args .bytes .now)) (s .args .chain .at) (y .before .before .line-number .result) (y .read-scanline .result)
+      next-within (rasterOf (s .args .l) (s .args .bytes .now)) (s .args .chain .at) (y .before .before .number-line .result .number) (y .read-scanline .result)
           (at-within (kept y)) (scan-of (line-read y)),
     )
 
-add-t21 : tie.Need-add-t21
-add-t21 c =
+add-t20 : tie.Need-add-t20
+add-t20 c =
     let y = c .before .before .before .before .before in
     let s = started y in
     omega (
@@ -87,8 +87,8 @@ returns-2 c =
     let n = y .before .before in
     let s = started y in
     step-on (rasterOf (s .args .l) (s .args .bytes .now)) (asPixels (s .args .l .ppl)) (s .args .k) (s .args .chain) (s .pre .1 .1 .0) (kept y .if1 .left)
-    (y .read-scanline .result) (y .read-scanline .last .1 .1 .1 .1 .0) (c .before .one-if-good .result) (n .before .rollover-met .ensures)
-    (n .line-number .ensures) (scan-of (line-read y)) (line-read y .row-is) (c .before .one-if-good .ensures)
+    (y .read-scanline .result) (y .read-scanline .last .1 .1 .1 .1 .0) (c .before .one-if-good .result) (n .number-line .ensures .1)
+    (n .number-line .ensures .0) (scan-of (line-read y)) (line-read y .row-is) (c .before .one-if-good .ensures)
 
 pub read-line-spec : {M : Type 1} → statement M
 read-line-spec =
@@ -102,9 +102,8 @@ read-line-spec =
     (λ c. search needs)
     (λ c κs. search needs)
     (λ c κs. search needs)
+    add-t15
     (λ c κs. search needs)
-    add-t16
-    (λ c κs. search needs)
-    add-t21
+    add-t20
     (λ c. search needs)
     returns-2)

@@ -23,13 +23,13 @@ at-within c =
 
 -- what is known where the scanline was read
 abbrev kept : tie.After-read-scanline-bytes → tie.After-slice-known
-kept c = c .before .before .before .before .before
+kept c = c .before .before .before .before
 
 abbrev started : tie.After-read-scanline-bytes → tie.Start
 started c = kept c .before .before
 
 abbrev number : tie.After-read-scanline-bytes → ℕ
-number c = c .before .before .line-number .result
+number c = c .before .before .number-line .result .number
 
 -- The scanline read there, for a row of the raster's length.
 abbrev Read : (c : tie.After-read-scanline-bytes) → Type 0
@@ -62,8 +62,8 @@ sub-rest c = omega (arith, at-within c)
 part-rest-start : tie.Need-part-rest-start
 part-rest-start c = omega (arith, at-within c)
 
-add-t12 : tie.Need-add-t12
-add-t12 c =
+add-t11 : tie.Need-add-t11
+add-t11 c =
     let y = c .before .before .before in
     let s = started y in
     omega (
@@ -71,8 +71,8 @@ add-t12 c =
       next-within (rasterOf (s .args .l) (s .args .bytes .now)) (s .args .chain .at) (number y) (y .read-scanline-bytes .result) (at-within (kept y)) (line-read y .0),
     )
 
-add-t17 : tie.Need-add-t17
-add-t17 c =
+add-t16 : tie.Need-add-t16
+add-t16 c =
     let y = c .before .before .before .before .before in
     let s = started y in
     omega (
@@ -89,8 +89,8 @@ returns c =
     let n = y .before .before in
     let s = started y in
     step-on (rasterOf (s .args .l) (s .args .bytes .now)) (asBytes (s .args .l .ppl)) (s .args .k) (s .args .chain) (s .pre .1 .1 .0) (s .pre .1 .1 .1 .0)
-    (y .read-scanline-bytes .result) (y .read-scanline-bytes .last .1 .1 .1 .1 .0) (c .before .one-if-good .result) (n .before .rollover-met .ensures)
-    (n .line-number .ensures) (line-read y .0) (line-read y .1) (c .before .one-if-good .ensures)
+    (y .read-scanline-bytes .result) (y .read-scanline-bytes .last .1 .1 .1 .1 .0) (c .before .one-if-good .result) (n .number-line .ensures .1)
+    (n .number-line .ensures .0) (line-read y .0) (line-read y .1) (c .before .one-if-good .ensures)
 
 pub read-line-spec : {M : Type 1} → statement M
 read-line-spec =
@@ -101,9 +101,8 @@ read-line-spec =
     (λ c. search needs)
     (λ c κs. search needs)
     (λ c κs. search needs)
+    add-t11
     (λ c κs. search needs)
-    add-t12
-    (λ c κs. search needs)
-    add-t17
+    add-t16
     (λ c. search needs)
     returns)

@@ -132,10 +132,10 @@ room c =
 
 -- where scanline k is looked at
 abbrev at-line : tie.Else2 Inv-loop μ-loop → tie.In-loop Inv-loop μ-loop
-at-line c = c .before .before .before .before .before
+at-line c = c .before .before .before .before
 
 abbrev number : tie.Else2 Inv-loop μ-loop → ℕ
-number c = c .before .before .line-number .result
+number c = c .before .before .number-line .result .number
 
 -- a scanline that passes the look is regular
 line : (c : tie.Else2 Inv-loop μ-loop)
@@ -191,7 +191,9 @@ slice-write-marks c =
     omega (arith, typed t, t .before .loop .inv .marks-length, started (t .before) .pre .marks-fit)
 
 add-at : tie.Need-add-at Inv-loop μ-loop
-add-at c = omega (arith, ends (c .before .before .before .before .before .before))
+add-at c =
+    let e = c .before .before .before .before .before .before in
+    omega (arith, ends e, started (at-line e .before) .good)
 
 add-k : tie.Need-add-k Inv-loop μ-loop
 add-k c =
@@ -210,10 +212,10 @@ loop-again c =
     let l = h .loop in
     let s = started h in
     next (rasterOf (s .args .l) (s .args .bytes .now)) (s .args .pixels .now) (s .args .marks .now) (l .pixels) (l .marks) (l .at) (l .k) (l .rollover) (l .inv) (typed t .1) (s .pre) (typed t .0)
-    (x .before .before .before .rollover-met .ensures) (x .before .before .line-number .ensures) (line x) (width h) (start h) (size h) (width-is h) (start-is h) (size-is h) (y .widen-words .last .1 .0) (y .widen-words .ensures)
+    (x .before .before .number-line .ensures .1) (x .before .before .number-line .ensures .0) (line x) (width h) (start h) (size h) (width-is h) (start-is h) (size-is h) (y .widen-words .last .1 .0) (y .widen-words .ensures)
 
-cast-t38 : tie.Need-cast-t38 Inv-loop μ-loop
-cast-t38 c = omega (arith, c .before .loop .inv .low, started (c .before) .pre .nol-most)
+cast-t37 : tie.Need-cast-t37 Inv-loop μ-loop
+cast-t37 c = omega (arith, c .before .loop .inv .low, started (c .before) .pre .nol-most)
 
 pub read-regular-spec : {M : Type 1} → statement M
 read-regular-spec =
@@ -232,7 +234,6 @@ read-regular-spec =
     part-rest-end
     (λ c κs. search needs)
     (λ c κs. search needs)
-    (λ c κs. search needs)
     mul-from
     add-to
     add-a
@@ -249,7 +250,7 @@ read-regular-spec =
     add-k
     loop-less
     loop-again
-    cast-t38
+    cast-t37
     (λ c. c .before .loop .inv .pixels-length)
     (λ c. c .before .loop .inv .marks-length)
     (λ c. c .before .loop .inv))

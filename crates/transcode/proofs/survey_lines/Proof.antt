@@ -31,7 +31,7 @@ part-rest-start c = omega (arith, c .before .loop .inv .within)
 
 -- scanline k is surveyed: what its laws take
 abbrev line : tie.After-survey-line Inv-loop μ-loop → tie.In-loop Inv-loop μ-loop
-line v = v .before .before .before .before .before
+line v = v .before .before .before .before
 
 returns : tie.Need-returns Inv-loop μ-loop
 returns c =
@@ -41,8 +41,8 @@ returns c =
     let s = start t in
     let x = v .survey-line .ensures in
     let n = v .before .before in
-    let met = n .before .rollover-met .ensures in
-    let wanted = n .line-number .ensures in
+    let met = n .number-line .ensures .1 in
+    let wanted = n .number-line .ensures .0 in
     let r = rasterOf (s .args .l) (s .args .bytes .now) in
     let typed = t .before .before .before .before .other-type .ensures in (
       survey-refused r (l .at) (l .rollover) (l .partway) (l .long) (l .size) (l .row) (l .k) (l .inv) (t .loop-test .taken) typed met wanted (x .0) (c .if1 .taken),
@@ -63,8 +63,8 @@ good c =
     let s = start t in
     let x = v .survey-line .ensures in
     let n = v .before .before in
-    let met = n .before .rollover-met .ensures in
-    let wanted = n .line-number .ensures in
+    let met = n .number-line .ensures .1 in
+    let wanted = n .number-line .ensures .0 in
     let r = rasterOf (s .args .l) (s .args .bytes .now) in
     let typed = t .before .before .before .before .other-type .ensures in
     let head = t .before .before .before .body-start .ensures in (
@@ -106,8 +106,8 @@ loop-again c =
     let s = start t in
     let x = v .survey-line .ensures in
     let n = v .before .before in
-    let met = n .before .rollover-met .ensures in
-    let wanted = n .line-number .ensures in
+    let met = n .number-line .ensures .1 in
+    let wanted = n .number-line .ensures .0 in
     let r = rasterOf (s .args .l) (s .args .bytes .now) in
     let typed = t .before .before .before .before .other-type .ensures in
     survey-next r (l .at) (l .rollover) (l .partway) (l .long) (l .size) (l .row) (l .k) (l .inv) (t .loop-test .taken) typed met wanted (x .0) (e .if1 .left)
@@ -135,7 +135,6 @@ survey-lines-spec =
     sub-rest
     part-rest-start
     (λ c. search needs)
-    (λ c κs. search needs)
     (λ c κs. search needs)
     (λ c κs. search needs)
     (λ c. search needs)

@@ -29,16 +29,16 @@ part-rest-start : tie.Need-part-rest-start Inv-loop μ-loop
 part-rest-start c = omega (arith, c .before .loop .inv .within)
 
 -- where the new scanline is to stand
-abbrev looped : tie.After-line-number Inv-loop μ-loop → tie.In-loop Inv-loop μ-loop
-looped c = c .before .before .before
+abbrev looped : tie.After-number-line Inv-loop μ-loop → tie.In-loop Inv-loop μ-loop
+looped c = c .before .before
 
-room : (c : tie.After-line-number Inv-loop μ-loop) → looped c .before .loop .at ≤ length (looped c .before .loop .out)
+room : (c : tie.After-number-line Inv-loop μ-loop) → looped c .before .loop .at ≤ length (looped c .before .loop .out)
 room c =
     let t = looped c in
     let s = start t in
     let l = t .before .loop in
     at-within (rasterOf (s .args .l) (s .args .bytes .now)) (l .from) (l .rollover) (l .row) (s .args .out .now) (l .out) (l .at) (l .k) (l .inv) (t .loop-test .taken)
-    (s .pre .1) (t .before .before .before .other-type .ensures) (c .before .rollover-met .ensures) (c .line-number .ensures)
+    (s .pre .1) (t .before .before .before .other-type .ensures) (c .number-line .ensures .1) (c .number-line .ensures .0)
 
 sub-write-line : tie.Need-sub-write-line Inv-loop μ-loop
 sub-write-line c = room (c .before)
@@ -53,7 +53,7 @@ write-line-requires c κs =
     let s = start t in
     let l = t .before .loop in
     line-fits (rasterOf (s .args .l) (s .args .bytes .now)) (l .from) (l .rollover) (l .row) (s .args .out .now) (l .out) (l .at) (l .k) (l .inv) (t .loop-test .taken)
-    (s .pre .1) (t .before .before .before .other-type .ensures) (n .before .rollover-met .ensures) (n .line-number .ensures)
+    (s .pre .1) (t .before .before .before .other-type .ensures) (n .number-line .ensures .1) (n .number-line .ensures .0)
 
 -- it is written
 abbrev turn : tie.After-write-line Inv-loop μ-loop → tie.In-loop Inv-loop μ-loop
@@ -70,8 +70,8 @@ ends w =
     let r = rasterOf (s .args .l) (s .args .bytes .now) in
     let typed = t .before .before .before .other-type .ensures in
     let n = w .before .before .before in
-    let met = n .before .rollover-met .ensures in
-    let wanted = n .line-number .ensures in
+    let met = n .number-line .ensures .1 in
+    let wanted = n .number-line .ensures .0 in
     let x = w .write-line .ensures .0 in (
       used-within r (l .from) (l .rollover) (l .row) (s .args .out .now) (l .out) (l .at) (l .k) (l .inv) (t .loop-test .taken) (s .pre .1) typed met wanted x,
       size-within r (l .from) (l .rollover) (l .row) (s .args .out .now) (l .out) (l .at) (l .k) (l .inv) (t .loop-test .taken) (s .pre .1) typed met wanted x,
@@ -104,7 +104,7 @@ loop-again c =
     let n = w .before .before .before in
     let x = w .write-line .ensures in
     write-next (rasterOf (s .args .l) (s .args .bytes .now)) (l .from) (l .rollover) (l .row) (s .args .out .now) (l .out) (l .at) (l .k) (l .inv) (t .loop-test .taken)
-    (s .pre .1) (t .before .before .before .other-type .ensures) (n .before .rollover-met .ensures) (n .line-number .ensures) (x .0) (x .1)
+    (s .pre .1) (t .before .before .before .other-type .ensures) (n .number-line .ensures .1) (n .number-line .ensures .0) (x .0) (x .1)
 
 same-length : tie.Need-same-length Inv-loop μ-loop
 same-length c = c .before .loop .inv .wide ∙ sym (c .before .before .before .before .before .before .before .pre .0 .wide)
@@ -131,7 +131,6 @@ write-lines-spec =
     sub-rest
     part-rest-start
     (λ c. search needs)
-    (λ c κs. search needs)
     (λ c κs. search needs)
     sub-write-line
     part-write-line-start
