@@ -29,6 +29,7 @@ use slices::fill_bytes;
 use units::Bytes;
 use units::Words;
 use units::bytes_to_words;
+use units::lesser;
 use units::widen_words;
 use units::words_to_bytes;
 
@@ -83,7 +84,8 @@ fn read_lines(bytes: &[u8], l: RasterLayout, pixels: &mut [u8], marks: &mut [u8]
 }
 
 // Reads the first scanlines of a raster of bytes as long as they are regular, in a loop of its own: few pixels a line then cost little
-// beside storing them. Of another data type it reads none.
+// beside storing them. Up to where line numbers roll over, each is the line's own less the same count, so that no line has to ask for it.
+// Of another data type it reads none.
 fn read_regular(bytes: &[u8], l: RasterLayout, pixels: &mut [u8], marks: &mut [u8]) -> Chain
     requires { ⌜ Fits (rasterOf l (now bytes)) (wordBytes (l .ppl)) (length (now pixels)) (length (now marks)) ⌝ }
     ensures { λ r. ⌜ LinesAt (rasterOf l (now (bytes .entry))) (asBytes (l .ppl)) (now (pixels .entry)) (now (marks .entry)) (now (pixels .exit)) (now (marks .exit)) r (r .good) ⌝ }
@@ -96,21 +98,24 @@ fn read_regular(bytes: &[u8], l: RasterLayout, pixels: &mut [u8], marks: &mut [u
     let mut at = l.start;
     let mut rollover = 0;
     let mut k = 0;
-    while k < n {
-        let rest = &bytes[at..];
-        let numbered = number_line(rollover, k, rest);
-        if !is_regular(l.scn, numbered.number, size, rest) {
-            break;
-        }
-        let from = k * width;
-        let to = from + width;
-        let a = at + start;
-        let b = a + p;
-        widen_words(&bytes[a..b], &mut pixels[from..to]);
-        marks[k] = 0;
-        at += size.0;
+    'runs: while k < n {
+        let numbered = number_line(rollover, k, &bytes[at..]);
         rollover = numbered.rollover;
-        k += 1;
+        let before = k + 1 - numbered.number as usize;
+        let end = lesser(n, before + 65535);
+        while k < end {
+            if !is_regular(l.scn, (k + 1 - before) as u16, size, &bytes[at..]) {
+                break 'runs;
+            }
+            let from = k * width;
+            let to = from + width;
+            let a = at + start;
+            let b = a + p;
+            widen_words(&bytes[a..b], &mut pixels[from..to]);
+            marks[k] = 0;
+            at += size.0;
+            k += 1;
+        }
     }
     Chain {
         at,

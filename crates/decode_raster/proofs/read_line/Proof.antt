@@ -9,7 +9,7 @@ use Rattle.layout.specs.laws.Chain.{start-within, good-most}
 use Rattle.decode_scanline.specs.Answer.{IsLine}
 use Rattle.decode_scanline.specs.laws.Painted.{scan-of}
 use Rattle.decode_raster.specs.laws.Answer.{asPixels}
-use Rattle.decode_raster.specs.laws.Steps.{next-within, one-most, step-lost, step-on}
+use Rattle.decode_raster.specs.laws.Steps.{next-within, one-most, step-lost, number-here, known-after, step-on}
 use borrow.Author.Needs.{needs}
 use Rattle.decode_raster.proofs.read_line.Statement.{statement}
 use Rattle.decode_raster.proofs.read_line.Tie as tie
@@ -87,8 +87,10 @@ returns-2 c =
     let n = y .before .before in
     let s = started y in
     step-on (rasterOf (s .args .l) (s .args .bytes .now)) (asPixels (s .args .l .ppl)) (s .args .k) (s .args .chain) (s .pre .1 .1 .0) (kept y .if1 .left)
-    (y .read-scanline .result) (y .read-scanline .last .1 .1 .1 .1 .0) (c .before .one-if-good .result) (n .number-line .ensures .1)
-    (n .number-line .ensures .0) (scan-of (line-read y)) (line-read y .row-is) (c .before .one-if-good .ensures)
+    (y .read-scanline .result) (y .read-scanline .last .1 .1 .1 .1 .0) (c .before .one-if-good .result)
+    (number-here (rasterOf (s .args .l) (s .args .bytes .now)) (asPixels (s .args .l .ppl)) (s .args .k) (s .args .chain) (s .pre .1 .1 .0) (kept y .if1 .left) (n .number-line .ensures .1) (n .number-line .ensures .0))
+    (known-after (rasterOf (s .args .l) (s .args .bytes .now)) (asPixels (s .args .l .ppl)) (s .args .k) (s .args .chain) (s .pre .1 .1 .0) (kept y .if1 .left) (n .number-line .ensures .1))
+    (scan-of (line-read y)) (line-read y .row-is) (c .before .one-if-good .ensures)
 
 pub read-line-spec : {M : Type 1} → statement M
 read-line-spec =

@@ -1,5 +1,5 @@
 -- One scanline read: what the chain is after it, where it was lost before and where not.
-use Prim.Native.Nat.{ℕ, _+_, _-_, _≤_}
+use Prim.Native.Nat.{ℕ, suc, _+_, _-_, _≤_}
 use mathlib.Core.Path.{_≡_, refl, sym, _∙_, ap, subst, subst⁻¹}
 use mathlib.Core.Bool.{Bool, true, false, not, cond, _&&_}
 use mathlib.Core.List.{List}
@@ -20,7 +20,7 @@ use Rattle.layout.specs.Scanline.{Reading, stepOf, readingOf}
 use Rattle.layout.specs.Chain.{Raster, from, stepAt, start, reached, numberOf, readingAt, oneIfGood, goodCount}
 use Rattle.layout.specs.laws.Line.{used-within}
 use Rattle.layout.specs.laws.Chain.{start-suc, reached-suc, reading-reached, reading-unreached, unreached-start, unreached-suc, good-suc}
-use Rattle.layout.specs.laws.Numbering.{number-met, known-next, known-lost}
+use Rattle.layout.specs.laws.Numbering.{RolloverKnown, number-met, known-next, known-lost}
 use Rattle.scan_scanline.specs.declared.Scanline.{Scanline}
 use Rattle.scan_scanline.specs.Answer.{IsScan}
 use Rattle.decode_raster.specs.declared.Chain.{Chain}
@@ -66,20 +66,33 @@ module _ (r : Raster) (s : Storing (r .ppl)) (k : ℕ) (c : Chain) (h : ChainAt 
         row-is = e ∙ sym (ap (λ (y : Reading). s .image (y .row)) x);
       }
 
+  -- what the chain meets where it has come to
+  module _ (kept : c .lost ≡ false) {rollover : ℕ} (met : rollover ≡ rolloverMet (c .rollover) k (take (length (r .bytes) - c .at) (from r (c .at)))) where
+    u : reached r k ≡ true
+    u = not-false (reached r k) (sym (h .lost) ∙ kept)
+
+    rest : take (length (r .bytes) - c .at) (from r (c .at)) ≡ from r (start r k)
+    rest = rest-is (r .bytes) (c .at) ∙ ap (from r) (h .at)
+
+    pub number-here : {number : ℕ} → number ≡ wantedNumber rollover k → number ≡ numberOf r k
+    number-here wanted = number-met r k (c .rollover) (h .rollover) u rest met wanted
+
+    pub known-after : RolloverKnown r (suc k) rollover
+    known-after = known-next r k (c .rollover) (h .rollover) u rest met
+
   -- by the number that scanline k must have
   pub step-on : c .lost ≡ false → (l : Scanline) (row : List ℕ) (one : ℕ) {rollover number : ℕ}
-      → rollover ≡ rolloverMet (c .rollover) k (take (length (r .bytes) - c .at) (from r (c .at))) → number ≡ wantedNumber rollover k
+      → number ≡ numberOf r k → RolloverKnown r (suc k) rollover
       → IsScan (stepOf (r .scn) (r .dataType) (r .ppl) (take (length (r .bytes) - c .at) (from r (c .at))))
       (readingOf (r .scn) (r .dataType) (r .ppl) number (take (length (r .bytes) - c .at) (from r (c .at)))) l
       → row ≡ s .image (readingOf (r .scn) (r .dataType) (r .ppl) number (take (length (r .bytes) - c .at) (from r (c .at))) .row)
       → one ≡ oneIfGood (l .status)
       → Stepped r s k (record { at = c .at + l .used .0; lost = l .lost; good = c .good + one; status = l .status; rollover = rollover }) row
-  step-on kept l row one {rollover} {number} met wanted line stored counted =
+  step-on kept l row one {rollover} {number} n known line stored counted =
       let u : reached r k ≡ true = not-false (reached r k) (sym (h .lost) ∙ kept) in
       let x = reading-reached r k u in
       let rest : take (length (r .bytes) - c .at) (from r (c .at)) ≡ from r (start r k) =
       rest-is (r .bytes) (c .at) ∙ ap (from r) (h .at) in
-      let n : number ≡ numberOf r k = number-met r k (c .rollover) (h .rollover) u rest met wanted in
       let there : IsScan (stepAt r (start r k)) (readingOf (r .scn) (r .dataType) (r .ppl) (numberOf r k) (from r (start r k))) l =
       subst (λ (m : ℕ). IsScan (stepAt r (start r k)) (readingOf (r .scn) (r .dataType) (r .ppl) m (from r (start r k))) l) n
       (subst (λ (b : List ℕ). IsScan (stepOf (r .scn) (r .dataType) (r .ppl) b) (readingOf (r .scn) (r .dataType) (r .ppl) number b) l) rest line) in
@@ -97,7 +110,7 @@ module _ (r : Raster) (s : Storing (r .ppl)) (k : ℕ) (c : Chain) (h : ChainAt 
                   ap (λ (g : ℕ). g + one) (h .good)
                   ∙ ap (λ (m : ℕ). goodCount r k + m) (counted ∙ ap oneIfGood y)
                   ∙ sym (good-suc r k);
-              rollover = known-next r k (c .rollover) (h .rollover) u rest met;
+              rollover = known;
             });
         status = y;
         row-is =

@@ -10,7 +10,7 @@ use Rattle.layout.specs.laws.Chain.{start-within, good-most}
 use Rattle.layout.specs.laws.Line.{length-row}
 use Rattle.scan_scanline.specs.Answer.{IsScan}
 use Rattle.decode_raster.specs.laws.Answer.{asBytes}
-use Rattle.decode_raster.specs.laws.Steps.{next-within, one-most, step-on, bytes-full}
+use Rattle.decode_raster.specs.laws.Steps.{next-within, one-most, number-here, known-after, step-on, bytes-full}
 use borrow.Author.Needs.{needs}
 use Rattle.decode_raster_bytes.proofs.read_line.Statement.{statement}
 use Rattle.decode_raster_bytes.proofs.read_line.Tie as tie
@@ -89,8 +89,10 @@ returns c =
     let n = y .before .before in
     let s = started y in
     step-on (rasterOf (s .args .l) (s .args .bytes .now)) (asBytes (s .args .l .ppl)) (s .args .k) (s .args .chain) (s .pre .1 .1 .0) (s .pre .1 .1 .1 .0)
-    (y .read-scanline-bytes .result) (y .read-scanline-bytes .last .1 .1 .1 .1 .0) (c .before .one-if-good .result) (n .number-line .ensures .1)
-    (n .number-line .ensures .0) (line-read y .0) (line-read y .1) (c .before .one-if-good .ensures)
+    (y .read-scanline-bytes .result) (y .read-scanline-bytes .last .1 .1 .1 .1 .0) (c .before .one-if-good .result)
+    (number-here (rasterOf (s .args .l) (s .args .bytes .now)) (asBytes (s .args .l .ppl)) (s .args .k) (s .args .chain) (s .pre .1 .1 .0) (s .pre .1 .1 .1 .0) (n .number-line .ensures .1) (n .number-line .ensures .0))
+    (known-after (rasterOf (s .args .l) (s .args .bytes .now)) (asBytes (s .args .l .ppl)) (s .args .k) (s .args .chain) (s .pre .1 .1 .0) (s .pre .1 .1 .1 .0) (n .number-line .ensures .1))
+    (line-read y .0) (line-read y .1) (c .before .one-if-good .ensures)
 
 pub read-line-spec : {M : Type 1} → statement M
 read-line-spec =

@@ -1,15 +1,15 @@
 -- The line numbers of a raster: what the chain knows, on its way, of the number in line 65,536.
-use Prim.Native.Nat.{ℕ, zero, suc, _≤_, _<_}
+use Prim.Native.Nat.{ℕ, zero, suc, _+_, _-_, _≤_, _<_}
 use mathlib.Core.Path.{_≡_, refl, sym, _∙_, ap}
 use mathlib.Core.Bool.{Bool, true, false, false≢true}
 use mathlib.Core.Logic.{inl, inr}
 use mathlib.Core.List.{List}
 use native.Mathlib.Omega.{arith}
-use lib.Dec.{eqb}
-use borrow.Author.Tests.{eqb-true}
+use lib.Dec.{eqb, ltb}
+use borrow.Author.Tests.{eqb-true, ltb-true, ltb-false}
 use Rattle.units.specs.laws.Numbers.{below-next}
 use Rattle.numbering.specs.Numbering.{firstPast, wantedNumber, storedNumber, rolloverMet}
-use Rattle.numbering.specs.laws.Numbering.{same-wanted, met-there, met-elsewhere}
+use Rattle.numbering.specs.laws.Numbering.{number-low, number-most, number-later, same-wanted, met-there, met-elsewhere}
 use Rattle.layout.specs.Scanline.{headOf, readingOf}
 use Rattle.layout.specs.Chain.{Raster, from, stepAt, start, reached, headAt, rolloverOf, numberOf}
 use Rattle.layout.specs.laws.Line.{head-word}
@@ -69,8 +69,32 @@ module _ (r : Raster) (k known : ℕ) (now : RolloverKnown r k known) (q : reach
   pub number-met : {number : ℕ} → number ≡ wantedNumber met k → number ≡ numberOf r k
   number-met wanted = wanted ∙ same-wanted met (rolloverOf r) k met-is
 
+  pub known-here : RolloverKnown r k met
+  known-here h here = met-is (omega arith)
+
   pub known-next : RolloverKnown r (suc k) met
   known-next h next = met-is (omega arith)
+
+  -- from there on each scanline has one more, up to 65,535: `before` lines more have come than the number says
+  module _ {number : ℕ} (wanted : number ≡ wantedNumber met k) {before end : ℕ} (behind : before ≡ k + 1 - number) (ends : end ≤ before + 65535) where
+    met-run : (j : ℕ) → k ≤ j → j < end → 65535 ≤ j → met ≡ rolloverOf r
+    met-run j l u h = go (ltb k 65535) refl
+      where
+        go : (t : Bool) → ltb k 65535 ≡ t → met ≡ rolloverOf r
+        go true e = absurd (omega (arith, number-low met k (ltb-true k 65535 e)))
+        go false e = met-is (ltb-false k 65535 e)
+
+    pub run-number : (j : ℕ) → k ≤ j → j < end → j + 1 - before ≡ numberOf r j
+    run-number j l u =
+        let d = j - k in
+        let w = wantedNumber met k in
+        let at : k + d ≡ j = omega arith in
+        let below : w + d ≤ 65535 = omega (arith, number-most met k) in
+        let n : j + 1 - before ≡ w + d = omega (arith, number-most met k) in
+        n ∙ sym (number-later met k d below) ∙ ap (wantedNumber met) at ∙ same-wanted met (rolloverOf r) j (met-run j l u)
+
+    pub run-known : (j : ℕ) → k ≤ j → j < end → RolloverKnown r (suc j) met
+    run-known j l u h next = met-run j l u (omega arith)
 
 -- none is known where the chain starts, and none is wanted of a scanline that is not reached
 pub known-first : (r : Raster) (known : ℕ) → RolloverKnown r 0 known

@@ -1,8 +1,9 @@
 -- Laws of line numbers: below line 65,536, from there on, and from one line to the next.
-use Prim.Native.Nat.{ℕ, suc, _+_, _%_, _≤_, _<_}
+use Prim.Native.Nat.{ℕ, zero, suc, _+_, _%_, _≤_, _<_}
 use mathlib.Core.Path.{_≡_, refl, sym, _∙_, ap}
 use mathlib.Core.Bool.{Bool, true, false, cond}
 use mathlib.Core.List.{List}
+use native.Mathlib.Nat.{add-zero, add-suc}
 use native.Mathlib.Omega.{arith}
 use lib.Dec.{eqb, ltb}
 use borrow.Author.Tests.{lt-ltb, le-ltb, ltb-true, ltb-false, eq-eqb, ne-eqb}
@@ -99,3 +100,17 @@ same-wanted a b k same = go (ltb k 65535) refl
     go : (t : Bool) → ltb k 65535 ≡ t → wantedNumber a k ≡ wantedNumber b k
     go true e = let h : k < 65535 = ltb-true k 65535 e in number-low a k h ∙ sym (number-low b k h)
     go false e = ap (λ (n : ℕ). wantedNumber n k) (same (ltb-false k 65535 e))
+
+-- no number is above the line's own, and up to 65,535 each line has one more
+pub number-most : (rollover k : ℕ) → wantedNumber rollover k ≤ k + 1
+number-most rollover k = rw (number-is rollover k) (go (eqb rollover 1))
+  where
+    go : (toOne : Bool) → rolledNumber toOne k ≤ k + 1
+    go true = omega arith
+    go false = omega arith
+
+pub number-later : (rollover k d : ℕ) → wantedNumber rollover k + d ≤ 65535 → wantedNumber rollover (k + d) ≡ wantedNumber rollover k + d
+number-later rollover k zero h = rw (add-zero k, add-zero (wantedNumber rollover k))
+number-later rollover k (suc d) h =
+    let e = number-later rollover k d (omega arith) in
+    rw (add-suc k d, rolls-over rollover .next (k + d) (omega arith)) (omega (arith, e))
