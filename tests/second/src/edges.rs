@@ -26,6 +26,13 @@ fn head(kind: u8, pixels: u8, lines: u8, scn: u8) -> Vec<u8> {
     file
 }
 
+/// The header of a sheet one pixel wide with so many lines.
+fn long(lines: u32) -> Vec<u8> {
+    let mut file = head(9, 1, 0, WITH);
+    put(&mut file, 188, &lines.to_le_bytes());
+    file
+}
+
 fn with_words(kind: u8, pixels: u8, lines: u8, scn: u8, raster: &[u16]) -> Vec<u8> {
     let mut file = head(kind, pixels, lines, scn);
     file.extend(words(raster));
@@ -208,6 +215,9 @@ fn usual_edges() -> Vec<Edge> {
             "type 9 pixels 8 lines 1 answer 1 good 0 end 1038\n1 7: 0 0 0 0 0 0 0 0\n",
         ),
         edge("no lines", head(9, 64, 0, WITH), "refused 20\n"),
+        edge("more lines than may be", long(1_000_001), "refused 20\n"),
+        edge("as many lines as may be", long(1_000_000), "refused 23\n"),
+        edge("lines past 65,535", long(65_536), "refused 23\n"),
         edge(
             "both buffers too short",
             changed(head(9, 64, 0, WITH), 188, &[0x01, 0x01]),
@@ -791,7 +801,10 @@ pub fn turned_edges() -> Vec<TurnedEdge> {
             ("PPL 0", Turning { ppl: 0, ..plain.clone() }, "refused 19\n"),
             ("PPL 65,539", Turning { ppl: 65_539, ..plain.clone() }, "refused 19\n"),
             ("NOL 0", Turning { nol: 0, ..plain.clone() }, "refused 20\n"),
-            ("NOL 65,538", Turning { nol: 65_538, ..plain.clone() }, "refused 20\n"),
+            ("NOL 1,000,001", Turning { nol: 1_000_001, ..plain.clone() }, "refused 20\n"),
+            ("NOL 1,048,578", Turning { nol: 1_048_578, ..plain.clone() }, "refused 20\n"),
+            ("NOL 1,000,000", Turning { nol: 1_000_000, ..plain.clone() }, "refused 23\n"),
+            ("NOL 65,538", Turning { nol: 65_538, ..plain.clone() }, "refused 23\n"),
             ("five pixels to be read", short.clone(), "refused 23\n"),
             ("five pixels to be filled", Turning { room: 5, ..plain }, "refused 31\n"),
             ("five pixels each", Turning { room: 5, ..short }, "refused 23\n"),

@@ -4,7 +4,8 @@
 use super::call::{numbers, Lend, Read};
 use crate::gen::pairs::Pair;
 use crate::model::c::RASTER_ANSWER;
-use crate::model::{long, sheet, word};
+use crate::model::sheet::line_alone;
+use crate::model::{long, word};
 
 /// What is wrong with two calls, if anything is. The second was lent so much.
 pub fn holds(pair: &Pair, first: &Read, second: &Read, lend: Lend) -> Result<(), String> {
@@ -36,6 +37,8 @@ pub fn holds(pair: &Pair, first: &Read, second: &Read, lend: Lend) -> Result<(),
         }
     }
     let kind = word(&pair.first, 4);
+    // No change reaches a line's number, so this one is the same in both.
+    let decides = starts.get(65_535).and_then(|&at| number_at(&pair.first, at));
     for (i, same) in pair.same.iter().enumerate() {
         let [old, new] = [first, second].map(|read| {
             (read.marks.lent()[i], &read.pixels.lent()[2 * ppl * i..2 * ppl * (i + 1)])
@@ -52,7 +55,8 @@ pub fn holds(pair: &Pair, first: &Read, second: &Read, lend: Lend) -> Result<(),
                 None => mark == 9,
                 Some(&at) => {
                     // A line is given no byte but its own.
-                    let (wanted, pixels) = sheet::line_alone(own_bytes(file, at), kind, ppl, k);
+                    let (wanted, pixels) =
+                        line_alone(own_bytes(file, at), kind, ppl, number(k, decides));
                     mark == wanted && row.chunks(2).map(|p| word(p, 0)).eq(pixels)
                 }
             };
@@ -62,6 +66,19 @@ pub fn holds(pair: &Pair, first: &Read, second: &Read, lend: Lend) -> Result<(),
         }
     }
     Ok(())
+}
+
+/// The number stored in a line that starts here, if its header lies in the file.
+fn number_at(file: &[u8], at: usize) -> Option<u64> {
+    file.get(at..at + 8).map(|header| word(header, 4))
+}
+
+/// The number that line `k` must have where line 65,536 has one that decides.
+fn number(k: usize, decides: Option<u64>) -> u64 {
+    match decides {
+        Some(1) => (k as u64 - 1) % 65_535 + 1,
+        _ => k as u64 % 65_536,
+    }
 }
 
 /// Where the lines begin that the chain reaches, and the end: the byte after the last line, or the

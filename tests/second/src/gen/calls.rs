@@ -11,7 +11,7 @@ use super::{headers, picture, pictures, sheets, turnings};
 use crate::calls::call::Lend;
 use crate::edges::{self, Edge, MovedEdge, TurnedEdge, WrittenEdge};
 use crate::model::c::{COLOR_ANSWER, HEADER_ANSWER, MOVE_ANSWER, RASTER_ANSWER, WRITE_ANSWER};
-use crate::model::{long, word};
+use crate::model::{long, word, MOST_LINES};
 use crate::peer::Peer;
 use crate::rng::Rng;
 
@@ -226,9 +226,20 @@ fn small_sheet(rng: &mut Rng, kind: u16, scn: u8) -> Vec<u8> {
     }
 }
 
-/// Sides whose number of bytes is small again in 32 bits or in 16.
-const WRAPPED: [(u32, u32); 6] =
-    [(65_535, 32_769), (65_535, 32_770), (65_534, 32_770), (256, 256), (257, 256), (32_768, 2)];
+/// Sides whose number of bytes, or of pixels, is small again in 32 bits or in 16.
+const WRAPPED: [(u32, u32); 11] = [
+    (65_535, 32_769),
+    (65_535, 32_770),
+    (65_534, 32_770),
+    (256, 256),
+    (257, 256),
+    (32_768, 2),
+    (32_768, 65_536),
+    (32_768, 131_072),
+    (61_681, 69_632),
+    (65_535, 65_537),
+    (65_535, 1_000_000),
+];
 
 /// Small sheets of every kind into pixel and mark slices of every length around what is needed,
 /// and large ones into as few as a product of fewer bits would ask for.
@@ -497,14 +508,14 @@ const MOST: u64 = 1 << 21;
 /// What the reader needs for a file, by its bytes alone; a file that is short or says too much
 /// gets a little.
 pub fn needed(file: &[u8]) -> Lend {
-    let (ppl, nol) =
-        if file.len() < 192 { (1, 1) } else { (long(file, 184), long(file, 188).min(65_536)) };
+    let (ppl, nol) = if file.len() < 192 { (1, 1) } else { (long(file, 184), long(file, 188)) };
+    let nol = nol.min(u64::from(MOST_LINES) + 1);
     let pixels = 2 * ppl.min(65_536) * nol;
-    Lend {
-        pixels: if pixels > MOST { 5_000 } else { pixels as usize },
-        marks: nol as usize,
-        answer: RASTER_ANSWER,
-    }
+    let [pixels, marks] = match pixels {
+        1..=MOST => [pixels, nol],
+        _ => [pixels.min(5_000), nol.min(65_536)],
+    };
+    Lend { pixels: pixels as usize, marks: marks as usize, answer: RASTER_ANSWER }
 }
 
 /// Slices that are long enough as a rule.

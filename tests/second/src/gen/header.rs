@@ -2,7 +2,7 @@
 
 use super::put;
 use super::sheet::TYPES;
-use crate::model;
+use crate::model::{self, MOST_LINES};
 use crate::rng::Rng;
 use std::collections::HashSet;
 
@@ -60,8 +60,8 @@ impl Draft {
         };
         let dtc = rng.pick(&TYPES);
         let mut draft = Draft::plain(dtc, blocks);
-        draft.ppl = some_size(rng);
-        draft.nol = some_size(rng);
+        draft.ppl = some_width(rng);
+        draft.nol = some_height(rng);
         draft.drs = some_drs(rng);
         draft.slo = rng.below(8) as u8;
         draft.scn = rng.below(2) as u8;
@@ -124,12 +124,21 @@ pub fn words_to_follow(blocks: usize) -> u16 {
     (256 * blocks - 2) as u16
 }
 
-/// Widths and heights inside the limits.
-fn some_size(rng: &mut Rng) -> u32 {
+/// A width inside its limits.
+fn some_width(rng: &mut Rng) -> u32 {
     match rng.below(4) {
         0 => rng.pick(&[1, 2, 255, 256, 257, 32_767, 32_768, 65_534, 65_535]),
         1 => rng.range(1, 100) as u32,
         _ => rng.range(1, 65_535) as u32,
+    }
+}
+
+/// A height inside its limits, most often one that a width could be, too.
+fn some_height(rng: &mut Rng) -> u32 {
+    match rng.below(6) {
+        0 => rng.pick(&[65_536, 65_537, 131_071, 131_072, MOST_LINES - 1, MOST_LINES]),
+        1 => rng.range(65_536, MOST_LINES as usize) as u32,
+        _ => some_width(rng),
     }
 }
 
@@ -231,8 +240,8 @@ pub fn spoil(rng: &mut Rng, draft: &mut Draft, number: u32) {
         }
         17 => draft.slo = rng.pick(&[8, 9, 15, 16, 127, 128, 132, 255]),
         18 => draft.scn = rng.pick(&[2, 3, 16, 128, 129, 254, 255]),
-        19 => draft.ppl = outside(rng),
-        20 => draft.nol = outside(rng),
+        19 => draft.ppl = outside(rng, 65_536),
+        20 => draft.nol = outside(rng, MOST_LINES + 1),
         21 => spoil_table(rng, draft),
         22 => {
             let room = room_for_entries(draft).clamp(2, 256);
@@ -258,11 +267,15 @@ fn other_than(rng: &mut Rng, right: &[u8], near: &[u8]) -> u8 {
     }
 }
 
-/// Widths and heights outside the limits, among them those that 16 bits would let pass.
-fn outside(rng: &mut Rng) -> u32 {
-    match rng.below(2) {
-        0 => rng.pick(&[0, 65_536, 65_537, 65_544, 0x0008_0000, 1 << 31, (1 << 31) + 8, u32::MAX]),
-        _ => 65_536 + rng.below((1 << 32) - 65_536) as u32,
+/// Widths and heights outside the limits, of which this is the first, among them those that 16 or
+/// 24 bits would let pass.
+fn outside(rng: &mut Rng, first: u32) -> u32 {
+    let wraps = first.next_multiple_of(65_536);
+    let above = [first, first + 1, wraps, wraps + 8, 0x0100_0008, 1 << 31, (1 << 31) + 8, u32::MAX];
+    match rng.below(10) {
+        0 => 0,
+        1..=4 => rng.pick(&above),
+        _ => rng.range(first as usize, u32::MAX as usize) as u32,
     }
 }
 

@@ -75,6 +75,15 @@ fn by_hand() -> Vec<Input> {
     add(Draft { drs: -32_768, ..draft.clone() }.bytes(), most);
     let microns = "type 9 blocks 2 pixels 8 lines 3 resolution 1 25 slo 0 scn 0 ctv 0 cte 0";
     add(Draft { drs: 25, ..draft.clone() }.bytes(), microns);
+    for nol in [65_535, 65_536, 1_000_000] {
+        let told =
+            format!("type 9 blocks 2 pixels 8 lines {nol} resolution 0 0 slo 0 scn 0 ctv 0 cte 0");
+        add(Draft { nol, ..draft.clone() }.bytes(), &told);
+    }
+    for nol in [0, 1_000_001, 1_048_576] {
+        add(Draft { nol, ..draft.clone() }.bytes(), "refused 20");
+    }
+    add(Draft { ppl: 65_536, nol: 65_536, ..draft.clone() }.bytes(), "refused 19");
     for (blocks, count, fits) in [(2, 32, true), (2, 33, false), (3, 96, true), (3, 97, false)] {
         let mut draft = Draft::plain(10, blocks);
         draft.environ_v(&(0..count).map(|slot| [slot, 1, 2, 3]).collect::<Vec<Entry>>());
@@ -112,6 +121,12 @@ fn limits() -> Vec<Draft> {
         65_536,
         65_537,
         131_071,
+        131_072,
+        999_999,
+        1_000_000,
+        1_000_001,
+        1_048_575,
+        1_048_576,
         0x0100_0000,
         (1 << 31) - 1,
         1 << 31,

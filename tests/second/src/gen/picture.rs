@@ -3,7 +3,7 @@
 use super::header::some_drs;
 use super::sheet::{some_row, words, TYPES};
 use crate::model::writer::{self, Order};
-use crate::model::Rejection;
+use crate::model::{Rejection, MOST_LINES};
 use crate::rng::Rng;
 
 /// What is handed to the writing program, every number 32 bits wide.
@@ -158,8 +158,8 @@ pub fn spoil(rng: &mut Rng, picture: &mut Picture, number: u32) {
             picture.slo = rng.pick(&[8, 9, 255, 256, 257, 263, 65_536, 65_540, 1 << 31, u32::MAX])
         }
         18 => picture.scn = rng.pick(&[2, 3, 255, 256, 257, 65_536, 65_537, 1 << 31, u32::MAX]),
-        19 => picture.ppl = outside(rng, picture.ppl),
-        20 => picture.nol = outside(rng, picture.nol),
+        19 => picture.ppl = outside(rng, picture.ppl, 65_536),
+        20 => picture.nol = outside(rng, picture.nol, MOST_LINES + 1),
         21 => {
             let length = rng.pick(&[1, 2, 3, 255, 256, 512, 766, 767, 769, 770, 1024, 1536, 2000]);
             picture.table = rng.bytes(length);
@@ -203,11 +203,13 @@ fn needed(picture: &Picture) -> usize {
     (picture.ppl as usize).saturating_mul(picture.nol as usize)
 }
 
-/// A size outside the limits, such as 16 bits would take for the right one.
-fn outside(rng: &mut Rng, right: u32) -> u32 {
+/// A size outside the limits, of which this is the first, such as 16 bits would take for the right
+/// one.
+fn outside(rng: &mut Rng, right: u32, first: u32) -> u32 {
+    let near = first + 4_464;
     match rng.below(3) {
-        0 => rng.pick(&[0, 65_536, 65_537, 70_000, 1 << 31, u32::MAX]),
-        1 => right.wrapping_add(65_536 * rng.range(1, 60_000) as u32).max(65_536),
-        _ => rng.range(65_536, 70_000) as u32,
+        0 => rng.pick(&[0, first, first + 1, near, 1 << 31, u32::MAX]),
+        1 => right.wrapping_add(65_536 * rng.range(1, 60_000) as u32).max(first),
+        _ => rng.range(first as usize, near as usize) as u32,
     }
 }

@@ -197,8 +197,10 @@ fn limits(rng: &mut Rng) -> Vec<Picture> {
     for scn in (0..=4).chain(wraps(0)).chain(wraps(1)).chain([255, u32::MAX]) {
         all.push(Picture { scn, ..plain.clone() });
     }
-    for size in [0, 1, 2, 3, 5, 6, 65_534, 65_535, 65_536, 65_540, 1 << 31, u32::MAX]
+    let past_16_bits = [65_536, 65_540, 1_000_000, 1_000_001, 1_048_578];
+    for size in [0, 1, 2, 3, 5, 6, 65_534, 65_535, 1 << 31, u32::MAX]
         .into_iter()
+        .chain(past_16_bits)
         .chain(wraps(4))
     {
         all.push(Picture { ppl: size, ..plain.clone() });
@@ -268,6 +270,9 @@ fn many_lines() -> Vec<Picture> {
         (1, 65_535, 0),
         (2, 65_535, 0),
         (9, 65_535, 0),
+        (1, 65_536, 0),
+        (1, 131_073, 0),
+        (2, 150_000, 0),
         (1, 39_000, 1),
         (3, 30_000, 1),
         (2, 39_000, 1),
@@ -277,9 +282,16 @@ fn many_lines() -> Vec<Picture> {
         let pixels = (0..nol).map(|i| (i % 2) as u16).collect();
         all.push(Picture::plain(kind, 1, nol, scn, pixels));
     }
-    // More than the room can hold, and one line more than there may be.
+    // More than the room can hold, more than the pixels are, and one line more than there may be.
     all.push(Picture { room: 400_000, ..Picture::plain(2, 1, 65_535, 1, vec![1; 65_535]) });
-    all.push(Picture::plain(2, 1, 65_536, 0, vec![1; 65_536]));
+    all.push(Picture { room: 400_000, ..Picture::plain(2, 1, 65_536, 1, vec![1; 65_536]) });
+    for nol in [1_000_000, 1_000_001] {
+        all.push(Picture::plain(2, 1, nol, 0, vec![1; 150_000]));
+    }
+    // Pixels as 32 bits count them: none, and 4,096.
+    for (ppl, nol) in [(32_768, 131_072), (61_681, 69_632)] {
+        all.push(Picture::plain(2, ppl, nol, 0, vec![1; 4_096]));
+    }
     all
 }
 

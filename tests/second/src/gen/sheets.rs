@@ -406,8 +406,32 @@ fn buffers(rng: &mut Rng) -> Vec<Vec<u8>> {
             }
         }
     }
+    // Lines past 65,535; the last two have 2^32 pixels, and 4,096 more.
+    for (kind, ppl, nol) in [
+        (9, 1, 65_536),
+        (2, 1, 65_537),
+        (10, 1, 131_072),
+        (1, 2, 1_000_000),
+        (3, 65_535, 1_000_000),
+        (2, 32_768, 131_072),
+        (9, 61_681, 69_632),
+    ] {
+        for scn in [0, 1] {
+            let header = some_header(rng, kind, scn, ppl, nol);
+            all.push(sheet(&header, &rng.bytes(40)));
+        }
+    }
     // Header and size both wrong: the header's number comes first.
-    for (ppl, nol) in [(65_536, 1), (1, 65_536), (0, 257), (65_535, 0), (8_193, 65_536)] {
+    for (ppl, nol) in [
+        (65_536, 1),
+        (1, 1_000_001),
+        (1, 1_048_577),
+        (0, 257),
+        (65_535, 0),
+        (8_193, 65_536),
+        (8_193, 1_000_001),
+        (65_536, 1_000_001),
+    ] {
         for scn in [0, 1, 2] {
             all.push(Draft { ppl, nol, scn, ..Draft::plain(9, 2) }.bytes());
         }

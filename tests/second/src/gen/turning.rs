@@ -3,7 +3,7 @@
 use super::sheet::words;
 use crate::model::probe::TURN_PIXELS;
 use crate::model::turn::{self, Order};
-use crate::model::Rejection;
+use crate::model::{Rejection, MOST_LINES};
 use crate::rng::Rng;
 
 /// What is handed to the turning program, every number 32 bits wide.
@@ -104,8 +104,8 @@ pub fn some_spare(rng: &mut Rng) -> [usize; 2] {
     [0, 1].map(|_| rng.pick(&[0, 0, 1, 2, 17, 300]))
 }
 
-/// The sets of faults that can be had. As no buffer has more than 60,000 pixels, a side above
-/// 65,535 makes both too short, and a side of 0 makes neither so.
+/// The sets of faults that can be had. As no buffer has more than 60,000 pixels, a side above its
+/// limit makes both too short, and a side of 0 makes neither so.
 pub const FAULTS: [&[Rejection]; 19] = [
     &[17],
     &[19],
@@ -144,8 +144,8 @@ pub fn faulty(rng: &mut Rng, way: u32, faults: &[Rejection]) -> Turning {
 fn spoil(rng: &mut Rng, turning: &mut Turning, number: Rejection) {
     match number {
         17 => turning.slo = some_wrong_slo(rng, turning.slo),
-        19 => turning.ppl = some_wrong_side(rng, turning.ppl),
-        20 => turning.nol = some_wrong_side(rng, turning.nol),
+        19 => turning.ppl = some_wrong_side(rng, turning.ppl, 65_536),
+        20 => turning.nol = some_wrong_side(rng, turning.nol, MOST_LINES + 1),
         23 => {
             let length = some_less(rng, turning.pixels.len());
             turning.pixels.truncate(length);
@@ -163,12 +163,13 @@ fn some_wrong_slo(rng: &mut Rng, right: u32) -> u32 {
     }
 }
 
-/// A side outside the limits, such as 16 bits would take for the right one.
-fn some_wrong_side(rng: &mut Rng, right: u32) -> u32 {
+/// A side outside the limits, of which this is the first, such as 16 bits would take for the right
+/// one.
+fn some_wrong_side(rng: &mut Rng, right: u32, first: u32) -> u32 {
     match rng.below(3) {
         0 => 0,
-        1 => rng.pick(&[65_536, 65_537, 70_000, 1 << 31, u32::MAX]),
-        _ => right + 65_536 * rng.range(1, 60_000) as u32,
+        1 => rng.pick(&[first, first + 1, first + 4_464, 1 << 31, u32::MAX]),
+        _ => right + 65_536 * rng.range(first.div_ceil(65_536) as usize, 60_000) as u32,
     }
 }
 

@@ -140,7 +140,8 @@ fn limits(rng: &mut Rng) -> Vec<Turning> {
             all.push(Turning { slo, ..plain.clone() });
         }
         let sizes = [0, 1, 2, 65_534, 65_535, 65_536, 65_537, 1 << 31, u32::MAX];
-        for size in sizes.into_iter().chain([2, 3].into_iter().flat_map(wraps)) {
+        let most = [999_999, 1_000_000, 1_000_001, 1_048_576, 1_048_578];
+        for size in sizes.into_iter().chain(most).chain([2, 3].into_iter().flat_map(wraps)) {
             all.push(Turning { ppl: size, ..plain.clone() });
             all.push(Turning { nol: size, ..plain.clone() });
             all.push(Turning { ppl: size, nol: size, ..plain.clone() });
@@ -166,6 +167,16 @@ fn products(rng: &mut Rng) -> Vec<Turning> {
         (65_536, 65_535),
         (65_536, 0),
         (0, 65_536),
+        (0, 1_000_001),
+        (65_535, 65_537),
+        (65_535, 1_000_000),
+        (65_535, 1_000_001),
+        (65_536, 1_000_000),
+        // 2^32 pixels, 2^31, and a few more than 2^32.
+        (32_768, 131_072),
+        (32_768, 65_536),
+        (61_681, 69_632),
+        (1, 1_000_000),
         (1 << 31, 2),
         (2, 1 << 31),
     ];

@@ -1,6 +1,6 @@
 //! A sheet's header and its colors.
 
-use super::{known_type, long, word, Rejection, LONGEST_FILE};
+use super::{known_type, long, word, Rejection, LONGEST_FILE, MOST_LINES};
 use std::collections::HashSet;
 
 #[derive(Clone, Copy, Debug, PartialEq)]
@@ -82,7 +82,7 @@ pub fn read(file: &[u8]) -> Result<Header, Rejection> {
         return Err(19);
     }
     let nol = long(file, 188);
-    if nol == 0 || nol > 65_535 {
+    if nol == 0 || nol > u64::from(MOST_LINES) {
         return Err(20);
     }
     let ctv = word(file, 532);

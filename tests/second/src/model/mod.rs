@@ -14,6 +14,8 @@ pub mod writer;
 pub type Rejection = u32;
 
 pub const LONGEST_FILE: u64 = 2_147_483_647;
+/// The most lines that a sheet may have.
+pub const MOST_LINES: u32 = 1_000_000;
 
 pub fn word(file: &[u8], at: usize) -> u64 {
     u64::from(u16::from_le_bytes([file[at], file[at + 1]]))

@@ -93,11 +93,15 @@ pub fn read_by(by: &Unpacking, file: &[u8], pixels: u64, marks: u64) -> Result<S
     let mut lines = Vec::new();
     let mut at = header.size();
     let mut lost = false;
-    for k in 1..=header.nol {
+    let mut count = Count::default();
+    for _ in 0..header.nol {
         let (reading, body, next) = match (lost, header.scn) {
             (true, _) => (Err(9), None, Next::Lost),
             (false, 0) => bare_line(by, file, at, header.kind, header.ppl),
-            (false, _) => headed_line(by, file, at, header.kind, header.ppl, k),
+            (false, _) => {
+                count.step(file.get(at + 4..at + 6).map(|stored| word(stored, 0)));
+                headed_line(by, file, at, header.kind, header.ppl, count.number)
+            }
         };
         match next {
             Next::At(place) => at = place,
@@ -112,22 +116,42 @@ pub fn read_by(by: &Unpacking, file: &[u8], pixels: u64, marks: u64) -> Result<S
     Ok(Sheet { header, lines, end: at })
 }
 
-/// Line `k` with its header, given nothing but its own bytes, as far as they lie in the file.
-pub fn line_alone(own: &[u8], kind: u64, ppl: usize, k: usize) -> (u8, Vec<u64>) {
-    match headed_line(&RIGHT, own, 0, kind, ppl as u64, k as u64).0 {
+/// The numbers of lines, counted from one line to the next. A word holds no more than 65,535 of
+/// them, and then the count rolls over.
+#[derive(Default)]
+struct Count {
+    number: u64,
+    /// What comes after 65,535, once the first line after it has decided that.
+    roll: Option<u64>,
+}
+
+impl Count {
+    /// Goes on to the next line, where this number is stored, if its header lies in the file.
+    fn step(&mut self, stored: Option<u64>) {
+        self.number = match self.number {
+            65_535 => *self.roll.get_or_insert(if stored == Some(1) { 1 } else { 0 }),
+            number => number + 1,
+        };
+    }
+}
+
+/// A line with its header and this number, given nothing but its own bytes, as far as they lie in
+/// the file.
+pub fn line_alone(own: &[u8], kind: u64, ppl: usize, number: u64) -> (u8, Vec<u64>) {
+    match headed_line(&RIGHT, own, 0, kind, ppl as u64, number).0 {
         Ok(row) => (0, row),
         Err(mark) => (mark, vec![0; ppl]),
     }
 }
 
-/// A line with its four words of header before it.
+/// A line with its four words of header before it, which must have this number.
 fn headed_line(
     by: &Unpacking,
     file: &[u8],
     at: usize,
     kind: u64,
     ppl: u64,
-    k: u64,
+    number: u64,
 ) -> (Reading, Option<Range<usize>>, Next) {
     if at + 8 > file.len() {
         return (Err(1), None, Next::Lost);
@@ -146,7 +170,7 @@ fn headed_line(
     }
     let body = at + 8..next;
     let offset = word(file, at + 6);
-    let reading = if word(file, at + 4) != k {
+    let reading = if word(file, at + 4) != number {
         Err(4)
     } else if offset > ppl {
         Err(5)

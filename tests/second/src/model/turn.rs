@@ -1,7 +1,7 @@
 //! Turning: a sheet made upright, and an upright picture made the sheet again. No pixel's place
 //! is computed: whole pictures are mirrored, and their columns taken for rows.
 
-use super::Rejection;
+use super::{Rejection, MOST_LINES};
 
 /// What turning is given. The numbers are as wide as they are handed over.
 pub struct Order<'a> {
@@ -43,13 +43,12 @@ pub fn turn(order: &Order) -> Result<Turned, Rejection> {
 
 /// Every number there is a reason to refuse with, in the order in which they are looked at.
 pub fn faults(order: &Order) -> Vec<Rejection> {
-    let side = |n| (1..=65_535).contains(&n);
     let needed = u64::from(order.ppl) * u64::from(order.nol);
     let holds = |length: usize| length as u64 >= needed;
     let checks = [
         (order.slo <= 7, 17),
-        (side(order.ppl), 19),
-        (side(order.nol), 20),
+        ((1..=65_535).contains(&order.ppl), 19),
+        ((1..=MOST_LINES).contains(&order.nol), 20),
         (holds(order.pixels.len()), 23),
         (holds(order.room), 31),
     ];

@@ -1,6 +1,6 @@
 //! The writer: its bytes are fixed.
 
-use super::{known_type, Rejection, LONGEST_FILE};
+use super::{known_type, Rejection, LONGEST_FILE, MOST_LINES};
 
 /// What the writer is given. The numbers are as wide as they are handed over.
 pub struct Order<'a> {
@@ -61,10 +61,13 @@ pub fn write_by(coding: &Coding, order: &Order) -> Result<Vec<u8>, Rejection> {
         return Err(27);
     }
     let mut file = header(order);
-    for (i, body) in bodies.iter().enumerate() {
+    let mut number = 0u16;
+    for body in &bodies {
+        // One word: after 65,535 comes 0.
+        number = number.wrapping_add(1);
         if order.scn == 1 {
             let follow = (body.len() / 2 + 2) as u16;
-            for word in [0x5900, follow, (i + 1) as u16, 0] {
+            for word in [0x5900, follow, number, 0] {
                 file.extend(word.to_le_bytes());
             }
         }
@@ -80,13 +83,12 @@ pub fn write_by(coding: &Coding, order: &Order) -> Result<Vec<u8>, Rejection> {
 }
 
 fn check_fields(order: &Order) -> Result<(), Rejection> {
-    let size = |n| (1..=65_535).contains(&n);
     let checks = [
         (known_type(u64::from(order.kind)), 16),
         (order.slo <= 7, 17),
         (order.scn <= 1, 18),
-        (size(order.ppl), 19),
-        (size(order.nol), 20),
+        ((1..=65_535).contains(&order.ppl), 19),
+        ((1..=MOST_LINES).contains(&order.nol), 20),
         (order.table.is_empty() || order.table.len() == 768, 21),
     ];
     match checks.iter().find(|(holds, _)| !holds) {
