@@ -70,8 +70,9 @@ fn try_calls(calls: &Calls, args: &Args, extent: Extent) -> Result<ExitCode, Str
         false => (extent, mode::calls::DEFAULT_COUNT),
     };
     let family = args.get("family").map(|name| {
-        let known = gen::calls::BY_CHANCE.into_iter().find(|family| *family == name);
-        known.ok_or(format!("--family: no {name:?}, but {}", gen::calls::BY_CHANCE.join(", ")))
+        let all = [&gen::calls::BY_CHANCE[..], &gen::long_calls::ALL].concat();
+        let known = all.iter().find(|family| **family == name).copied();
+        known.ok_or(format!("--family: no {name:?}, but {}", all.join(", ")))
     });
     let scope = mode::calls::Scope { extent, family: family.transpose()? };
     let mut plan = args.plan(count)?;

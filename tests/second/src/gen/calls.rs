@@ -2,6 +2,8 @@
 
 use super::header::{some_entries, Draft};
 use super::large::{self, some_banded, some_large, some_large_picture, some_large_turning};
+use super::long::LongEdge;
+use super::long_calls;
 use super::moves::{self, Move};
 use super::pairs::{changed, some_pair, Pair};
 use super::picture::{some_small_picture, Picture};
@@ -25,6 +27,7 @@ pub enum What {
     WrittenEdge(WrittenEdge),
     TurnedEdge(TurnedEdge),
     MovedEdge(MovedEdge),
+    LongEdge(LongEdge),
     Peer(Peer),
     /// With the outcome, where it is known without the model.
     Header {
@@ -85,7 +88,8 @@ const MOVES: &str = "moves by chance";
 pub const THERE_AND_BACK: &str = "moves there and back by chance";
 const BANDS: &str = "bands by chance";
 const LARGE: &str = "large ones by chance";
-pub const BY_CHANCE: [&str; 11] = [
+const LONG_ONES: &str = "long ones by chance";
+pub const BY_CHANCE: [&str; 12] = [
     HEADERS,
     COLORS,
     SHEETS,
@@ -97,6 +101,7 @@ pub const BY_CHANCE: [&str; 11] = [
     THERE_AND_BACK,
     BANDS,
     LARGE,
+    LONG_ONES,
 ];
 
 /// Which cases there are.
@@ -112,9 +117,11 @@ pub enum Extent {
 /// The largest edge of the writer in a small extent, in pixels, and of the move, in bytes.
 const SMALL_PICTURE: usize = 3_000;
 
+/// Cases of one family, to be made.
+pub type Group = Box<dyn FnOnce(&mut Rng) -> Vec<Case>>;
+
 /// The cases that are always run. No group of them is made before it is come to.
 pub fn fixed(seed: u64, extent: Extent, peers: Vec<Peer>) -> impl Iterator<Item = Case> {
-    type Group = Box<dyn FnOnce(&mut Rng) -> Vec<Case>>;
     let mut groups: Vec<Group> = vec![
         Box::new(move |_| known(extent, peers)),
         Box::new(|rng| all_of(SMALL[0], answers(rng))),
@@ -131,6 +138,7 @@ pub fn fixed(seed: u64, extent: Extent, peers: Vec<Peer>) -> impl Iterator<Item 
         groups.push(Box::new(|rng| all_of(FIXED[5], bits(rng))));
         groups.push(Box::new(|rng| all_of(FIXED[6], larges(rng))));
         groups.push(Box::new(|rng| all_of(FIXED[7], fixed_moves(rng))));
+        groups.extend(long_calls::groups().into_iter().map(|(_, group)| group));
     }
     if extent == Extent::Whole {
         groups.push(Box::new(|_| all_of(VAST, [What::Vast])));
@@ -139,7 +147,7 @@ pub fn fixed(seed: u64, extent: Extent, peers: Vec<Peer>) -> impl Iterator<Item 
     groups.into_iter().flat_map(move |make| make(&mut rng))
 }
 
-fn all_of(family: &'static str, list: impl IntoIterator<Item = What>) -> Vec<Case> {
+pub fn all_of(family: &'static str, list: impl IntoIterator<Item = What>) -> Vec<Case> {
     list.into_iter().map(|what| Case { family, what }).collect()
 }
 
@@ -414,6 +422,7 @@ fn some_family(rng: &mut Rng, small: bool) -> &'static str {
         69..=70 => THERE_AND_BACK,
         64 if !small && rng.one_in(2) => BANDS,
         65 if !small && rng.one_in(15) => LARGE,
+        65 if !small && rng.one_in(100) => LONG_ONES,
         _ => SHEETS,
     }
 }
@@ -464,6 +473,7 @@ fn some_of(rng: &mut Rng, small: bool, family: &str) -> What {
         },
         BANDS => some_pair_or_raster(rng, BANDS, some_banded),
         LARGE => some_large_case(rng),
+        LONG_ONES => long_calls::some_case(rng, LONG_ONES),
         _ => {
             let file = sheets::random(rng).file;
             raster(rng, file)
@@ -497,7 +507,7 @@ fn some_pair_or_raster(
     raster(rng, file)
 }
 
-fn raster(rng: &mut Rng, file: Vec<u8>) -> What {
+pub fn raster(rng: &mut Rng, file: Vec<u8>) -> What {
     let lend = some_lend(rng, &file);
     What::Raster { file, lend }
 }

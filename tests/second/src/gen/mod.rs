@@ -4,6 +4,8 @@ pub mod calls;
 pub mod header;
 pub mod headers;
 pub mod large;
+pub mod long;
+pub mod long_calls;
 pub mod moves;
 pub mod pairs;
 pub mod picture;

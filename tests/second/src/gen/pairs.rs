@@ -4,6 +4,7 @@
 use super::put;
 use super::sheet::{some_body, some_row, some_size, words, Harm, TYPES};
 use super::sheets::some_headed;
+use crate::model::header::Header;
 use crate::model::probe::LISTING_LIMIT;
 use crate::model::sheet::{self, Line, Sheet};
 use crate::model::word;
@@ -117,15 +118,43 @@ pub fn changed(rng: &mut Rng, family: &'static str, first: Vec<u8>) -> Option<Pa
         // The last body is the one that may be cut.
         let body =
             if rng.one_in(3) { bodies[bodies.len() - 1].clone() } else { any_of(rng, &bodies) };
-        let offset = offset_before(&first, &body).min(header.ppl);
-        let rest = (header.ppl - offset) as usize;
-        change(rng, &mut second[body], header.kind as u16, [offset as usize, rest]);
+        change_in(rng, &mut second, &header, body);
     }
-    let same: Vec<bool> = lines
-        .iter()
-        .map(|line| line.body.as_ref().is_none_or(|b| first[b.clone()] == second[b.clone()]))
-        .collect();
+    let same = same_bodies(&lines, &first, &second);
     (!same.iter().all(|same| *same)).then_some(Pair { family, first, second, same })
+}
+
+/// The same with the bodies of these lines changed, and no others; none where one of them has no
+/// body.
+pub fn changed_at(
+    rng: &mut Rng,
+    family: &'static str,
+    first: Vec<u8>,
+    places: &[usize],
+) -> Option<Pair> {
+    let Sheet { header, lines, .. } = sheet::read(&first, u64::MAX, u64::MAX).ok()?;
+    let mut second = first.clone();
+    for k in places {
+        let body = lines[k - 1].body.clone().filter(|body| !body.is_empty())?;
+        while second[body.clone()] == first[body.clone()] {
+            change_in(rng, &mut second, &header, body.clone());
+        }
+    }
+    let same = same_bodies(&lines, &first, &second);
+    Some(Pair { family, first, second, same })
+}
+
+/// Changes one body of a file.
+fn change_in(rng: &mut Rng, file: &mut [u8], header: &Header, body: Range<usize>) {
+    let offset = offset_before(file, &body).min(header.ppl);
+    let rest = (header.ppl - offset) as usize;
+    change(rng, &mut file[body], header.kind as u16, [offset as usize, rest]);
+}
+
+/// For each line, whether its body has the same bytes in both files, or it has none.
+fn same_bodies(lines: &[Line], first: &[u8], second: &[u8]) -> Vec<bool> {
+    let same = |body: &Range<usize>| first[body.clone()] == second[body.clone()];
+    lines.iter().map(|line| line.body.as_ref().is_none_or(same)).collect()
 }
 
 fn any_of(rng: &mut Rng, bodies: &[Range<usize>]) -> Range<usize> {

@@ -9,6 +9,8 @@ use crate::gen::calls::{
     fixed, needed as enough_for, random, some_lend, Case, Extent, What, BY_CHANCE, EDGES, FIXED,
     OTHER, SMALL, VAST,
 };
+use crate::gen::long::LongEdge;
+use crate::gen::long_calls;
 use crate::gen::moves::Move;
 use crate::gen::pairs::{Pair, EFFECTS};
 use crate::gen::picture::Picture;
@@ -36,29 +38,32 @@ const ENOUGH: usize = 100_000;
 const MOVES: usize = 20_000;
 const CALLED: &str = "ingr_move called";
 /// No more bytes than so many are lent to a move, whatever the sheet says.
-const MOST_ROOM: usize = 1 << 21;
+const MOST_ROOM: usize = 1 << 22;
 
 /// Which cases are run, besides what the plan says.
 pub struct Scope {
     pub extent: Extent,
-    /// No cases but these, which are by chance.
+    /// No cases but these, which are by chance or of long sheets.
     pub family: Option<&'static str>,
 }
 
 pub fn run(calls: &Calls, peer: &Path, scope: &Scope, plan: &Plan) -> Result<ExitCode, String> {
     let Scope { extent, family } = *scope;
     let bench = Bench { calls, bare: extent == Extent::Small };
-    let mut fixed = fixed(plan.seed, extent, Peer::all(peer)?);
+    let by_chance = family.is_none_or(|family| BY_CHANCE.contains(&family));
+    let mut fixed: Box<dyn Iterator<Item = Case>> = match family {
+        None => Box::new(fixed(plan.seed, extent, Peer::all(peer)?)),
+        Some(family) => Box::new(long_calls::fixed(plan.seed, family)),
+    };
     let needed = match family {
         Some(family) => Needed { families: vec![family], ..Needed::default() },
         None => needed(extent, plan),
     };
     Ok(report::walk(NAME, plan, &needed, |i| {
         let mut rng = Rng::new(plan.seed, i as u64);
-        let known = if family.is_none() { fixed.next() } else { None };
-        let case = match known {
+        let case = match fixed.next() {
             Some(case) => case,
-            None if i < plan.count => random(&mut rng, extent, family),
+            None if by_chance && i < plan.count => random(&mut rng, extent, family),
             None => return None,
         };
         Some(check(&bench, &mut rng, &case))
@@ -98,6 +103,7 @@ fn needed(extent: Extent, plan: &Plan) -> Needed {
         return Needed { reached, families, often: Vec::new() };
     }
     families.extend(FIXED);
+    families.extend(long_calls::ALL);
     let mut add = |call: &str, numbers: Vec<u32>| {
         reached.extend(numbers.iter().map(|number| format!("{call} refused {number}")));
     };
@@ -143,6 +149,7 @@ fn check(bench: &Bench, rng: &mut Rng, case: &Case) -> Outcome {
         What::WrittenEdge(edge) => check_written_edge(bench, rng, edge, &mut reached),
         What::TurnedEdge(edge) => check_turned_edge(bench, rng, edge, &mut reached),
         What::MovedEdge(edge) => check_moved_edge(bench, rng, edge, &mut reached),
+        What::LongEdge(edge) => check_long_edge(bench, rng, edge, &mut reached),
         What::Peer(peer) => check_peer(bench, rng, peer, &mut reached),
         What::Header { file, answer, first } => {
             let (done, found) = bench.header(rng, file, *answer);
@@ -312,6 +319,30 @@ fn check_edge(bench: &Bench, rng: &mut Rng, edge: &Edge, reached: &mut Vec<Strin
         Err(number) => refused_with(read.result, number),
     };
     found.then(by_hand).named(edge.name)
+}
+
+/// A long sheet to whose end all lines are told of and reached.
+fn check_long_edge(
+    bench: &Bench,
+    rng: &mut Rng,
+    edge: &LongEdge,
+    reached: &mut Vec<String>,
+) -> Found {
+    let (read, found) = bench.raster(rng, &edge.file, enough_for(&edge.file));
+    reached_by(&read, &edge.file, reached);
+    let mut marks = vec![0; long(&edge.file, 188) as usize];
+    for (lines, mark) in &edge.marks {
+        marks[lines.start() - 1..*lines.end()].fill(*mark);
+    }
+    let known = Known {
+        result: u32::from(!edge.marks.is_empty()),
+        good: marks.iter().filter(|mark| **mark == 0).count() as u64,
+        end: edge.file.len() as u64,
+        marks,
+        // Not told of.
+        rows: Vec::new(),
+    };
+    found.then(|| known.compare(&read)).named(edge.name)
 }
 
 fn refused_with(result: u32, number: u32) -> Result<(), Fault> {

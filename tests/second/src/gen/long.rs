@@ -1,0 +1,442 @@
+//! Long sheets: more lines than the number in a line's header can count. The lines are of one pixel
+//! or two, so that there may be many.
+
+use super::header::Draft;
+use super::moves::movable;
+use super::pairs::{changed_at, Pair};
+use super::picture::Picture;
+use super::sheet::{
+    damage, headed, sheet, some_bare, some_body, some_header, some_margin, some_row, Flaw, Line,
+    Margin, FLAWS, TYPES,
+};
+use super::turning::{some_spare, Turning};
+use crate::rng::Rng;
+use std::iter::repeat;
+use std::ops::RangeInclusive;
+
+/// Heights around the first roll, around the second one to 1 and to 0, and past the third.
+pub const HEIGHTS: [usize; 9] =
+    [65_534, 65_535, 65_536, 65_537, 131_070, 131_071, 131_072, 131_073, 200_000];
+
+/// The line whose number decides what comes after 65,535.
+const DECIDES: usize = 65_536;
+
+/// Lines around the rolls, but for the one that decides.
+const AROUND: [usize; 10] =
+    [65_533, 65_534, 65_535, 65_537, 65_538, 131_069, 131_070, 131_071, 131_072, 131_073];
+
+/// The numbers of lines where this comes after each 65,535.
+fn numbers(roll: u16) -> impl Iterator<Item = u16> {
+    (1..=65_535).chain(repeat(roll..=65_535).flatten())
+}
+
+/// A sheet with line headers.
+#[derive(Clone)]
+pub struct Strip {
+    header: Draft,
+    lines: Vec<Line>,
+}
+
+impl Strip {
+    /// Good lines, whose numbers roll so.
+    fn new(rng: &mut Rng, kind: u16, height: usize, roll: u16) -> Strip {
+        let ppl = rng.range(1, 2);
+        let margin = some_margin(rng, ppl);
+        let loose = rng.one_in(2);
+        Strip::within(rng, kind, [ppl, height], roll, (margin, loose))
+    }
+
+    /// The same to be moved: lines from their rows' start, with the writer's bodies.
+    fn strict(rng: &mut Rng, kind: u16, ppl: usize, height: usize, roll: u16) -> Strip {
+        Strip::within(rng, kind, [ppl, height], roll, (Margin::None, false))
+    }
+
+    fn within(
+        rng: &mut Rng,
+        kind: u16,
+        [ppl, height]: [usize; 2],
+        roll: u16,
+        (margin, loose): (Margin, bool),
+    ) -> Strip {
+        let header = some_header(rng, kind, 1, ppl, height);
+        // They come again after a few, so that this takes less time than reading.
+        let several: Vec<Line> = (0..7)
+            .map(|_| {
+                let offset = margin.offset(rng, ppl);
+                let row = some_row(rng, kind, ppl - offset);
+                Line::starting(0, offset, some_body(rng, kind, &row, loose, true))
+            })
+            .collect();
+        let numbered = |(number, line): (u16, &Line)| Line { number, ..line.clone() };
+        let lines = numbers(roll).zip(several.iter().cycle()).take(height).map(numbered);
+        Strip { header, lines: lines.collect() }
+    }
+
+    fn line(&mut self, k: usize) -> &mut Line {
+        &mut self.lines[k - 1]
+    }
+
+    /// Gives one line this number.
+    fn with(mut self, k: usize, number: u16) -> Strip {
+        self.line(k).number = number;
+        self
+    }
+
+    /// Numbers the lines from this one on as those from another one on are where they roll so.
+    fn renumbered(mut self, k: usize, from: usize, roll: u16) -> Strip {
+        let lines = self.lines.iter_mut().skip(k - 1);
+        lines.zip(numbers(roll).skip(from - 1)).for_each(|(line, number)| line.number = number);
+        self
+    }
+
+    fn damaged(mut self, rng: &mut Rng, k: usize, flaw: Flaw) -> Strip {
+        let (kind, ppl) = (self.header.dtc, self.header.ppl as usize);
+        damage(rng, self.line(k), kind, ppl, flaw);
+        self
+    }
+
+    /// Tells of another number of lines than there are.
+    fn told(mut self, nol: usize) -> Strip {
+        self.header.nol = nol as u32;
+        self
+    }
+
+    fn file(&self) -> Vec<u8> {
+        headed(&self.header, &self.lines)
+    }
+
+    /// The file up to some bytes past the start of a line.
+    fn up_to(&self, k: usize, more: usize) -> Vec<u8> {
+        let length: usize = self.lines[..k - 1].iter().map(|line| 8 + line.body.len()).sum();
+        let mut file = self.file();
+        file.truncate(self.header.len + length + more);
+        file
+    }
+}
+
+/// A long sheet whose marks are known without the model: all are 0 but these.
+pub struct LongEdge {
+    pub name: &'static str,
+    pub file: Vec<u8>,
+    pub marks: Vec<(RangeInclusive<usize>, u8)>,
+}
+
+/// Both rolls, neither, and rolls that change their mind.
+pub fn edges(rng: &mut Rng) -> Vec<LongEdge> {
+    let mut strip = |kind, height, roll| Strip::new(rng, kind, height, roll);
+    let edge = |name, strip: Strip, marks: &[(RangeInclusive<usize>, u8)]| LongEdge {
+        name,
+        file: strip.file(),
+        marks: marks.to_vec(),
+    };
+    let late = 131_080;
+    let four = |lines| [(lines, 4)];
+    vec![
+        edge("rolls to 0", strip(2, late, 0), &[]),
+        edge("rolls to 1", strip(2, late, 1), &[]),
+        edge(
+            "2 in line 65,536, then 1",
+            strip(9, late, 0).with(DECIDES, 2),
+            &four(65_536..=65_536),
+        ),
+        edge("2 in line 65,536, then 2", strip(9, late, 1).with(DECIDES, 2), &four(65_536..=late)),
+        edge("1 in line 65,536, then 1", strip(3, late, 0).with(DECIDES, 1), &four(65_537..=late)),
+        edge("0 in line 65,536, then 2", strip(3, late, 1).with(DECIDES, 0), &four(65_537..=late)),
+        edge(
+            "rolls to 1, then to 0",
+            strip(10, late, 1).renumbered(131_071, 65_536, 0),
+            &four(131_071..=late),
+        ),
+        edge(
+            "rolls to 0, then to 1",
+            strip(10, late, 0).renumbered(131_072, 65_536, 1),
+            &four(131_072..=late),
+        ),
+        edge(
+            "rolls to 1, then 0 once",
+            strip(1, late, 1).with(131_071, 0),
+            &four(131_071..=131_071),
+        ),
+        edge(
+            "rolls to 0, then 1 once",
+            strip(1, late, 0).with(131_072, 1),
+            &four(131_072..=131_072),
+        ),
+        edge("1 in line 65,535", strip(2, late, 0).with(65_535, 1), &four(65_535..=65_535)),
+        edge("1 in line 65,537", strip(2, late, 1).with(65_537, 1), &four(65_537..=65_537)),
+    ]
+}
+
+/// Good sheets of every height, rolling to 0 and to 1.
+pub fn good(rng: &mut Rng, kind: u16) -> Vec<Vec<u8>> {
+    let mut all = Vec::new();
+    for (i, height) in HEIGHTS.into_iter().enumerate() {
+        for roll in [0, 1] {
+            // Up to 65,535 lines nothing rolls, and bytes have the most ways to be read.
+            if (height >= DECIDES || roll == 0) && (kind == 2 || i % 2 == usize::from(roll)) {
+                all.push(Strip::new(rng, kind, height, roll).file());
+            }
+        }
+    }
+    // One more line than is told of, which may not decide.
+    for told in [65_534, 65_535, 65_536] {
+        all.push(Strip::new(rng, kind, told + 1, 1).told(told).file());
+    }
+    // Fewer than are told of.
+    all.push(Strip::new(rng, kind, 65_535, 0).told(65_537).file());
+    all
+}
+
+/// Lines that are refused around the rolls, where the chain goes on.
+pub fn damaged(rng: &mut Rng, kind: u16) -> Vec<Vec<u8>> {
+    let mut all = Vec::new();
+    for roll in [0, 1] {
+        let mut strip = Strip::new(rng, kind, 131_074, roll);
+        for k in AROUND {
+            let flaw = rng.pick(&FLAWS[3..]);
+            strip = strip.damaged(rng, k, flaw);
+        }
+        all.push(strip.file());
+        // Refused for another reason, the line decides all the same.
+        let flaw = rng.pick(&[Flaw::Offset, Flaw::Count, Flaw::Spare, Flaw::Above, Flaw::Below]);
+        all.push(Strip::new(rng, kind, 131_074, roll).damaged(rng, DECIDES, flaw).file());
+        // Numbers around the deciding one, such as would decide otherwise.
+        for (k, number) in [(65_535, roll), (65_535, 1 - roll), (65_537, 2 - roll)] {
+            all.push(Strip::new(rng, kind, 65_540, roll).with(k, number).file());
+        }
+        let k = rng.pick(&AROUND);
+        let number = rng.pick(&[0, 1, 2, 65_534, 65_535]);
+        all.push(Strip::new(rng, kind, 131_074, roll).with(k, number).file());
+    }
+    all
+}
+
+/// Numbers in line 65,536 that are neither 0 nor 1, in bytes the wrong way round among them.
+const NEITHER: [u16; 8] = [2, 3, 0x0100, 0x0101, 0x8000, 0xFF00, 65_534, 65_535];
+
+/// A line 65,536 that decides nothing, and lines after it that go by either roll.
+pub fn neither(rng: &mut Rng) -> Vec<Vec<u8>> {
+    let mut all = Vec::new();
+    for (i, number) in NEITHER.into_iter().enumerate() {
+        for roll in [0, 1] {
+            let kind = TYPES[(i + usize::from(roll)) % TYPES.len()];
+            let height = if i % 3 == 0 { 131_074 } else { 65_539 };
+            all.push(Strip::new(rng, kind, height, roll).with(DECIDES, number).file());
+        }
+    }
+    // The lines after it go on from its number, or as if there were no such line.
+    all.push(Strip::new(rng, 2, 65_560, 0).renumbered(DECIDES, 2, 0).file());
+    all.push(Strip::new(rng, 9, 65_560, 0).renumbered(DECIDES, 65_535, 0).file());
+    all.push(Strip::new(rng, 10, 131_090, 1).renumbered(131_071, 131_070, 1).file());
+    all
+}
+
+/// Lines that are lost around the rolls, and files that end there.
+pub fn lost(rng: &mut Rng) -> Vec<Vec<u8>> {
+    let mut all = Vec::new();
+    for (i, k) in [65_534, 65_535, 65_536, 65_537].into_iter().enumerate() {
+        for (j, flaw) in FLAWS[..3].iter().enumerate() {
+            let roll = (i + j) as u16 % 2;
+            let kind = TYPES[(i + 2 * j) % TYPES.len()];
+            all.push(Strip::new(rng, kind, 65_540, roll).damaged(rng, k, *flaw).file());
+        }
+    }
+    for (i, k) in [131_071, 131_072].into_iter().enumerate() {
+        let flaw = rng.pick(&FLAWS[..3]);
+        all.push(Strip::new(rng, TYPES[i], 131_075, 1 - i as u16).damaged(rng, k, flaw).file());
+    }
+    for roll in [0, 1] {
+        let strip = Strip::new(rng, 2, 65_537, roll);
+        all.extend([0, 5, 6, 8, 9].map(|more| strip.up_to(DECIDES, more)));
+        all.push(strip.up_to(DECIDES + 1, 7));
+    }
+    all
+}
+
+/// Sheets without line headers, which have no numbers: whole, cut off, and with a run too long.
+pub fn bare(rng: &mut Rng, kind: u16) -> Vec<Vec<u8>> {
+    let mut all = Vec::new();
+    for height in [65_536, 131_073] {
+        let ppl = rng.range(1, 2);
+        let header = some_header(rng, kind, 0, ppl, height);
+        let mut raster = some_bare(rng, kind, ppl, height);
+        all.push(sheet(&header, &raster));
+        let at = raster.len() - raster.len() % 2 - 2 * rng.range(1, 4);
+        raster[at] ^= 3;
+        raster.truncate(raster.len() - rng.below(4));
+        all.push(sheet(&header, &raster));
+    }
+    all
+}
+
+/// A sheet of as many lines as may be.
+pub fn longest(rng: &mut Rng) -> Vec<u8> {
+    Strip::strict(rng, 2, 1, 1_000_000, 1).file()
+}
+
+/// Bodies changed before, at and after the line that decides, and no others.
+pub fn pairs(rng: &mut Rng, family: &'static str) -> Vec<Pair> {
+    let mut all = Vec::new();
+    let places: [&[usize]; 5] = [
+        &[65_536],
+        &[65_535, 65_537],
+        &[1, 65_536, 65_539],
+        &[131_071, 131_072],
+        &[65_536, 131_072],
+    ];
+    for (i, kind) in TYPES.into_iter().enumerate() {
+        for roll in [0, 1] {
+            let places = places[(i + 3 * usize::from(roll)) % places.len()];
+            let height = if places.contains(&131_072) { 131_074 } else { 65_540 };
+            let mut strip = Strip::new(rng, kind, height, roll);
+            if rng.one_in(3) {
+                strip.line(DECIDES).number = rng.pick(&NEITHER);
+            }
+            // A body that there is something of to change.
+            for &k in places {
+                let row = some_row(rng, kind, strip.header.ppl as usize);
+                let body = some_body(rng, kind, &row, false, true);
+                *strip.line(k) = Line { offset: 0, body, ..strip.line(k).clone() };
+            }
+            all.extend(changed_at(rng, family, strip.file(), places));
+        }
+    }
+    all
+}
+
+/// Pictures of many lines, with headers and without.
+pub fn pictures(rng: &mut Rng) -> Vec<Picture> {
+    let heights = [65_536, 65_537, 131_071, 131_072, 131_073];
+    let mut all = Vec::new();
+    for (i, kind) in TYPES.into_iter().enumerate() {
+        for scn in [0, 1] {
+            let height = heights[(i + scn) % heights.len()];
+            all.push(picture(rng, kind, scn as u32, height));
+        }
+    }
+    all.push(picture(rng, 2, 1, 200_000));
+    // A byte too few.
+    let mut short = picture(rng, 9, 1, 65_536);
+    short.fit_within(-1, u32::MAX);
+    all.push(short);
+    all
+}
+
+pub fn picture(rng: &mut Rng, kind: u16, scn: u32, height: usize) -> Picture {
+    let ppl = if height > 200_000 { 1 } else { rng.range(1, 2) };
+    let several = some_row(rng, kind, 101);
+    let pixels = several.into_iter().cycle().take(ppl * height).collect();
+    let mut picture = Picture::plain(kind, ppl, height, scn, pixels);
+    picture.fit_within(rng.pick(&[0, 0, 3]), u32::MAX);
+    picture
+}
+
+/// Every code, both ways.
+pub fn turnings(rng: &mut Rng) -> Vec<Turning> {
+    let mut all = Vec::new();
+    let heights = [65_536, 65_537, 70_001, 131_072, 200_000];
+    for slo in 0..8 {
+        for way in [0, 1] {
+            let sides = (rng.range(1, 2), heights[(slo + way) as usize % heights.len()]);
+            let spare = some_spare(rng);
+            all.push(Turning::within(rng, way, slo, sides, spare, usize::MAX));
+        }
+    }
+    all
+}
+
+/// Sheets that are moved, with both rolls, and must come back.
+pub fn moves(rng: &mut Rng) -> Vec<Vec<u8>> {
+    let mut all = Vec::new();
+    for (kind, roll, height) in [
+        (1, 0, 65_537),
+        (1, 1, 65_536),
+        (1, 0, 131_073),
+        (1, 1, 131_072),
+        (9, 0, 65_536),
+        (9, 1, 65_537),
+        (9, 0, 131_072),
+        (9, 1, 131_073),
+        (1, 1, 200_000),
+    ] {
+        let ppl = rng.range(1, 2);
+        all.push(Strip::strict(rng, kind, ppl, height, roll).file());
+    }
+    all
+}
+
+/// The same without line headers, with any bodies.
+pub fn bare_moves(rng: &mut Rng) -> Vec<Vec<u8>> {
+    let sides = [(1, 1, 65_536), (1, 2, 131_073), (9, 2, 65_537), (9, 1, 131_072)];
+    sides.map(|(kind, ppl, height)| movable(rng, kind, 0, ppl, height)).to_vec()
+}
+
+/// Sheets that are not moved for a line past 65,535, most of them for its number.
+pub fn unmoved(rng: &mut Rng) -> Vec<Vec<u8>> {
+    let mut all = Vec::new();
+    for (kind, roll) in [(1, 0), (1, 1), (9, 0), (9, 1)] {
+        let mut strip = |height| Strip::strict(rng, kind, 1, height, roll);
+        all.push(strip(65_537).with(DECIDES, 2).file());
+        all.push(strip(65_540).with(65_538, 2).file());
+        all.push(strip(65_540).with(DECIDES, 1 - roll).file());
+        all.push(strip(131_074).with(131_072 - usize::from(roll), 1 - roll).file());
+        all.push(strip(131_074).renumbered(131_072, 65_536, 1 - roll).file());
+        let mut partway = strip(65_538);
+        // Good, and all of its row is before its body.
+        let body = if kind == 1 { Vec::new() } else { vec![0, 0] };
+        *partway.line(65_537) = Line { offset: 1, body, ..partway.line(65_537).clone() };
+        all.push(partway.file());
+    }
+    all
+}
+
+/// A long sheet by chance.
+pub fn some_long(rng: &mut Rng) -> Vec<u8> {
+    let kind = rng.pick(&TYPES);
+    let roll = rng.below(2) as u16;
+    let height = some_height(rng);
+    let mut strip = Strip::new(rng, kind, height, roll);
+    if rng.one_in(4) {
+        let number = if rng.one_in(2) { rng.pick(&NEITHER) } else { rng.word() };
+        strip = strip.with(DECIDES.min(height), number);
+    }
+    if rng.one_in(6) {
+        // A roll of another kind, or a line left out or told of twice.
+        let k = rng.pick(&AROUND).min(height);
+        let from = (k + rng.below(3)).saturating_sub(1);
+        let roll = rng.below(2) as u16;
+        strip = strip.renumbered(k, from, roll);
+    }
+    for _ in 0..rng.pick(&[0, 0, 1, 2, 5]) {
+        let k = if rng.one_in(3) { rng.range(1, height) } else { rng.pick(&AROUND).min(height) };
+        let flaw = if rng.one_in(6) { rng.pick(&FLAWS) } else { rng.pick(&FLAWS[3..]) };
+        strip = strip.damaged(rng, k, flaw);
+    }
+    let told = match rng.below(4) {
+        0 => (height + rng.below(5)).saturating_sub(2),
+        _ => height,
+    };
+    let strip = strip.told(told);
+    match rng.below(6) {
+        0 => strip.up_to(rng.pick(&AROUND).min(height), rng.below(14)),
+        _ => strip.file(),
+    }
+}
+
+/// Mostly near a roll.
+pub fn some_height(rng: &mut Rng) -> usize {
+    match rng.below(8) {
+        0..=3 => rng.range(65_533, 65_545),
+        4 => rng.range(65_536, 131_000),
+        5 | 6 => rng.range(131_068, 131_080),
+        _ => rng.range(131_080, 200_000),
+    }
+}
+
+/// A long sheet by chance that is moved.
+pub fn some_movable(rng: &mut Rng) -> Vec<u8> {
+    let kind = rng.pick(&[1, 9]);
+    let (height, roll) = (some_height(rng), rng.below(2) as u16);
+    let ppl = rng.range(1, 2);
+    Strip::strict(rng, kind, ppl, height, roll).file()
+}
