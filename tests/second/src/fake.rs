@@ -5,7 +5,7 @@
 use crate::misread::{self, misread, Misreading};
 use crate::model::sheet::Unpacking;
 use crate::model::writer::{self, Coding};
-use crate::model::{long, probe, sheet};
+use crate::model::{long, probe, sheet, MOST_LINES};
 use crate::{miscut, mispack};
 use std::io::{self, Read, Write};
 use std::time::Duration;
@@ -60,13 +60,15 @@ const fn refused(name: &'static str, change: fn(&mut Call)) -> Defect {
     Defect { name, change: Change::Refused(change) }
 }
 
-const HEADER: [Defect; 10] = [
+const HEADER: [Defect; 12] = [
     // CTV taken as one byte.
     before("ctv-byte", |file| keep(file, 533, 0)),
     // PPL taken as 16 bits.
     before("ppl-word", |file| keep(file, 186, 0)),
     // Unused bits of SLO let pass.
     before("slo-bits", |file| keep(file, 194, 7)),
+    before("nol-65536-refused", |file| past_65535_refused(file, 188)),
+    before("nol-1000001-taken", |file| one_more_taken(file, 188)),
     before("last-byte-unread", |file| file.truncate(file.len().max(1) - 1)),
     after("colors-twice", |out| {
         replace(out, "\n255: 65280 65280 65280\n", "\n255: 65535 65535 65535\n")
@@ -82,9 +84,11 @@ const HEADER: [Defect; 10] = [
     after("runs-on", |_| std::thread::sleep(Duration::MAX)),
 ];
 
-const LISTING: [Defect; 29] = [
+const LISTING: [Defect; 31] = [
     before("last-byte-unread", |file| file.truncate(file.len().max(1) - 1)),
     before("cuts-long-input", |file| file.truncate(probe::LISTING_LIMIT)),
+    before("nol-65536-refused", |file| past_65535_refused(file, 188)),
+    before("nol-1000001-taken", |file| one_more_taken(file, 188)),
     after("no-newline", |out| out.truncate(out.len() - 1)),
     after("always-good", |out| replace(out, " answer 1 ", " answer 0 ")),
     // The first pixels painted before the fault was seen.
@@ -130,10 +134,12 @@ const LENT: [u16; 1] = [65_535];
 /// Some pixels of a sheet that was read before.
 const LAST_SHEET: [u16; 5] = [1, 1, 2, 3, 5];
 
-const WRITE: [Defect; 17] = [
+const WRITE: [Defect; 19] = [
     // Numbers narrowed to 16 bits before they are looked at.
     before("type-word", |input| keep(input, 2, 0)),
     before("scn-byte", |input| keep(input, 17, 0)),
+    before("nol-65536-refused", |input| past_65535_refused(input, 8)),
+    before("nol-1000001-taken", |input| one_more_taken(input, 8)),
     after("no-newline", |out| out.truncate(out.len() - 1)),
     after("header-then-refused", |out| {
         if out.starts_with(b"refused 28\n") && out.len() > 11 {
@@ -166,7 +172,7 @@ const WRITE: [Defect; 17] = [
     after("refuses-all", |out| *out = b"refused 16\n".to_vec()),
 ];
 
-const TURN: [Defect; 17] = [
+const TURN: [Defect; 19] = [
     // Bits 0 and 1 exchanged.
     before("corners-exchanged", |input| {
         if let Some(slo) = input.get_mut(4) {
@@ -185,6 +191,8 @@ const TURN: [Defect; 17] = [
     // PPL and NOL taken as 16 bits.
     before("ppl-word", |input| [10, 11].iter().for_each(|&at| keep(input, at, 0))),
     before("nol-word", |input| [14, 15].iter().for_each(|&at| keep(input, at, 0))),
+    before("nol-65536-refused", |input| past_65535_refused(input, 12)),
+    before("nol-1000001-taken", |input| one_more_taken(input, 12)),
     // The columns of a mirrored picture counted from its width, not from one less.
     turned("mirror-off-by-one", |call| {
         if call.slo & 1 == 1 && !call.back {
@@ -241,6 +249,24 @@ const TURN: [Defect; 17] = [
 fn keep(file: &mut [u8], at: usize, bits: u8) {
     if let Some(place) = file.get_mut(at) {
         *place &= bits;
+    }
+}
+
+/// Makes more lines than 65,535 none, which are refused.
+fn past_65535_refused(input: &mut [u8], at: usize) {
+    lines_changed(input, at, |lines| if lines > 65_535 { 0 } else { lines });
+}
+
+/// Makes a line more than there may be as many.
+fn one_more_taken(input: &mut [u8], at: usize) {
+    lines_changed(input, at, |lines| if lines == MOST_LINES + 1 { MOST_LINES } else { lines });
+}
+
+/// Changes NOL, which stands there, if the input has it.
+fn lines_changed(input: &mut [u8], at: usize, change: fn(u32) -> u32) {
+    if let Some(place) = input.get_mut(at..at + 4) {
+        let lines = change(long(place, 0) as u32);
+        place.copy_from_slice(&lines.to_le_bytes());
     }
 }
 

@@ -9,6 +9,7 @@ mod fake;
 mod gen;
 mod miscut;
 mod mismove;
+mod misnumber;
 mod mispack;
 mod misread;
 mod mode;

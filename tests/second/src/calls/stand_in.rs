@@ -2,6 +2,8 @@
 //! the right ones pass and that each wrong one is found; nothing more, since they are the model.
 
 use super::Calls;
+use crate::gen::long_calls::{EDGES, LINE_COUNTS, MOVES, PAIRS, PICTURES};
+use crate::misnumber::{self, misnumber, Rule};
 use crate::misread::{self, misread, Misreading};
 use crate::model::c::{
     self, Turn, Write, COLOR_ANSWER, HEADER_ANSWER, MOVE_ANSWER, RASTER_ANSWER, SHORT_ANSWER,
@@ -10,7 +12,7 @@ use crate::model::c::{
 use crate::model::sheet::Unpacking;
 use crate::model::transcode::Manner;
 use crate::model::writer::Coding;
-use crate::model::{header, long, probe, sheet, turn};
+use crate::model::{header, long, probe, sheet, turn, MOST_LINES};
 use crate::{miscut, mismove, mispack};
 use std::slice::{from_raw_parts, from_raw_parts_mut};
 use std::sync::{Mutex, OnceLock};
@@ -27,6 +29,8 @@ pub struct Defect {
     pub name: &'static str,
     /// What must be told of it.
     pub told: &'static str,
+    /// The cases that must show it, where not all are run.
+    pub family: Option<&'static str>,
     change: Change,
 }
 
@@ -44,6 +48,8 @@ enum Change {
     Misread(Misreading),
     /// To the packed words that are read.
     Unpack(Unpacking),
+    /// To the numbers that lines must have.
+    Misnumber(Rule),
     /// To the words that are written for a row.
     Miscode(Coding),
     /// To the way a sheet is moved.
@@ -56,7 +62,17 @@ enum Change {
 }
 
 const fn defect(name: &'static str, told: &'static str, change: Change) -> Defect {
-    Defect { name, told, change }
+    Defect { name, told, family: None, change }
+}
+
+/// One that no short sheet shows.
+const fn of_long(
+    name: &'static str,
+    family: &'static str,
+    told: &'static str,
+    change: Change,
+) -> Defect {
+    Defect { name, told, family: Some(family), change }
 }
 
 pub const RIGHT: &str = "right";
@@ -94,7 +110,7 @@ pub const OF_PAIRS: [(&str, &str); 16] = [
     ("10-before-6", "not read by its own header and body"),
 ];
 
-pub const DEFECTS: [Defect; 123] = [
+pub const DEFECTS: [Defect; 154] = [
     defect(RIGHT, "", Change::None),
     // 29 after another number, too early, too late.
     defect(
@@ -792,6 +808,173 @@ pub const DEFECTS: [Defect; 123] = [
             number => number,
         }),
     ),
+    // Lines past 65,535.
+    of_long("rolls-to-0-always", EDGES, MARKS, Change::Misnumber(misnumber::ALWAYS_TO_0)),
+    of_long("rolls-to-1-always", EDGES, MARKS, Change::Misnumber(misnumber::ALWAYS_TO_1)),
+    of_long("never-rolls", EDGES, MARKS, Change::Misnumber(misnumber::NEVER)),
+    of_long("numbers-unseen-past-65535", EDGES, MARKS, Change::Misnumber(misnumber::UNSEEN)),
+    of_long("second-roll-to-0", EDGES, MARKS, Change::Misnumber(misnumber::SECOND_TO_0)),
+    of_long("second-roll-early", EDGES, MARKS, Change::Misnumber(misnumber::SECOND_EARLY)),
+    of_long("decided-by-65535", EDGES, MARKS, Change::Misnumber(misnumber::DECIDED_BEFORE)),
+    of_long("decided-by-65537", EDGES, MARKS, Change::Misnumber(misnumber::DECIDED_AFTER)),
+    of_long("decided-anew", EDGES, MARKS, Change::Misnumber(misnumber::DECIDED_ANEW)),
+    of_long("neither-rolls-to-1", EDGES, MARKS, Change::Misnumber(misnumber::NEITHER_TO_1)),
+    of_long("only-good-decides", EDGES, MARKS, Change::Misnumber(misnumber::ONLY_GOOD_DECIDES)),
+    of_long(
+        "body-decides",
+        PAIRS,
+        "demand 3: line 65536 ",
+        Change::Misnumber(misnumber::BODY_DECIDES),
+    ),
+    of_long("writes-roll-to-1", PICTURES, OUTPUT, Change::Write(misnumber::writes_to_1)),
+    of_long(
+        "move-renumbers",
+        MOVES,
+        "there and back: other bytes come back",
+        Change::Move(misnumber::moves_anew),
+    ),
+    of_long(
+        "move-refuses-roll-to-1",
+        MOVES,
+        "there and back: refused",
+        Change::Move(misnumber::moves_to_0),
+    ),
+    of_long(
+        "move-numbers-unseen",
+        MOVES,
+        "ingr_move: result 0, 41 wanted",
+        Change::Move(misnumber::moves_unseen),
+    ),
+    // Numbers of lines, and what they are multiplied to.
+    of_long(
+        "header-65536-refused",
+        LINE_COUNTS,
+        "ingr_header: result 20, 0 wanted",
+        Change::Header(|file, answer| up_to_65535(c::header(file, answer), lines_of(file))),
+    ),
+    of_long(
+        "color-65536-refused",
+        LINE_COUNTS,
+        "ingr_color: result 20, 0 wanted",
+        Change::Color(|file, value, answer| {
+            up_to_65535(c::color(file, value, answer), lines_of(file))
+        }),
+    ),
+    of_long(
+        "raster-65536-refused",
+        LINE_COUNTS,
+        "ingr_raster: result 20, 1 wanted",
+        Change::Raster(|file, pixels, marks, answer| {
+            up_to_65535(c::raster(file, pixels, marks, answer), lines_of(file))
+        }),
+    ),
+    of_long(
+        "write-65536-refused",
+        PICTURES,
+        "ingr_write: result 20, 0 wanted",
+        Change::Write(|given, out, answer| {
+            up_to_65535(c::write(given, out, answer), given.nol.into())
+        }),
+    ),
+    of_long(
+        "turn-65536-refused",
+        LINE_COUNTS,
+        "ingr_turn: result 20, 0 wanted",
+        Change::Turn(|given, filled| up_to_65535(c::turn(given, filled), given.nol.into())),
+    ),
+    of_long(
+        "move-65536-refused",
+        LINE_COUNTS,
+        "ingr_move: result 20, 41 wanted",
+        Change::Move(|file, out, answer| match c::transcode(file, out, answer) {
+            0 | 41 if lines_of(file) > 65_535 => 20,
+            number => number,
+        }),
+    ),
+    of_long(
+        "header-1000001-taken",
+        LINE_COUNTS,
+        "ingr_header: result 0, 20 wanted",
+        Change::Header(|file, answer| c::header(&with_one_more_taken(file), answer)),
+    ),
+    of_long(
+        "color-1000001-taken",
+        LINE_COUNTS,
+        "ingr_color: result 0, 20 wanted",
+        Change::Color(|file, value, answer| c::color(&with_one_more_taken(file), value, answer)),
+    ),
+    of_long(
+        "raster-1000001-taken",
+        LINE_COUNTS,
+        "ingr_raster: result 1, 20 wanted",
+        Change::Raster(|file, pixels, marks, answer| {
+            c::raster(&with_one_more_taken(file), pixels, marks, answer)
+        }),
+    ),
+    of_long(
+        "write-1000001-taken",
+        LINE_COUNTS,
+        ", 20 wanted",
+        Change::Write(|given, out, answer| {
+            c::write(&Write { nol: one_more_taken(given.nol), ..*given }, out, answer)
+        }),
+    ),
+    of_long(
+        "turn-1000001-taken",
+        LINE_COUNTS,
+        ", 20 wanted",
+        Change::Turn(|given, filled| {
+            c::turn(&Turn { nol: one_more_taken(given.nol), ..*given }, filled)
+        }),
+    ),
+    of_long(
+        "move-1000001-taken",
+        LINE_COUNTS,
+        "ingr_move: result 41, 20 wanted",
+        Change::Move(|file, out, answer| c::transcode(&with_one_more_taken(file), out, answer)),
+    ),
+    // None of these touches a buffer that is too short.
+    of_long(
+        "raster-product-in-32-bits",
+        LINE_COUNTS,
+        "ingr_raster: result 1, 23 wanted",
+        Change::Raster(|file, pixels, marks, answer| {
+            match c::raster(file, pixels, marks, answer) {
+                23 if hold_in_32_bits(pixels.len(), 2 * size_of_sheet(file) as u64) => 1,
+                number => number,
+            }
+        }),
+    ),
+    of_long(
+        "turn-product-in-32-bits",
+        LINE_COUNTS,
+        "ingr_turn: result 0, 23 wanted",
+        Change::Turn(|given, filled| match c::turn(given, filled) {
+            23 if hold_in_32_bits(
+                given.pixels.len(),
+                u64::from(given.ppl) * u64::from(given.nol),
+            ) =>
+            {
+                0
+            }
+            number => number,
+        }),
+    ),
+    of_long(
+        "write-product-in-32-bits",
+        LINE_COUNTS,
+        "ingr_write: result 28, 23 wanted",
+        Change::Write(|given, out, answer| match c::write(given, out, answer) {
+            23 if hold_in_32_bits(
+                given.pixels.len(),
+                u64::from(given.ppl) * u64::from(given.nol),
+            ) =>
+            {
+                28
+            }
+            number => number,
+        }),
+    ),
     defect(
         "runs-on",
         "runs on",
@@ -854,6 +1037,8 @@ pub const DEFECTS: [Defect; 123] = [
     ),
 ];
 
+/// What is told of marks.
+const MARKS: &str = "ingr_raster: ";
 /// What is told of bytes in the output of the writer, and of the move.
 const OUTPUT: &str = "ingr_write: output: byte ";
 const MOVED: &str = "ingr_move: output: byte ";
@@ -947,6 +1132,60 @@ fn misread_raster(
     }
 }
 
+/// Reads a sheet whose lines are misnumbered.
+fn misnumbered_raster(
+    file: &[u8],
+    pixels: &mut [u8],
+    marks: &mut [u8],
+    answer: &mut [u8],
+    wrong: Rule,
+) -> u32 {
+    match (c::raster(file, pixels, marks, answer), sheet::read(file, u64::MAX, u64::MAX)) {
+        (0 | 1, Ok(mut found)) => {
+            misnumber(file, &mut found, wrong);
+            c::leave(&found, pixels, marks, answer)
+        }
+        (number, _) => number,
+    }
+}
+
+/// NOL, if there is so much of a file.
+fn lines_of(file: &[u8]) -> u64 {
+    file.get(188..192).map_or(0, |bytes| long(bytes, 0))
+}
+
+/// Refuses what has more lines than a word counts.
+fn up_to_65535(number: u32, lines: u64) -> u32 {
+    match number {
+        0 | 1 if lines > 65_535 => 20,
+        _ => number,
+    }
+}
+
+/// A line more than there may be, taken for as many.
+fn one_more_taken(lines: u32) -> u32 {
+    if lines == MOST_LINES + 1 {
+        MOST_LINES
+    } else {
+        lines
+    }
+}
+
+/// The same in a file.
+fn with_one_more_taken(file: &[u8]) -> Vec<u8> {
+    let mut file = file.to_vec();
+    if file.len() >= 192 {
+        let lines = one_more_taken(long(&file, 188) as u32);
+        file[188..192].copy_from_slice(&lines.to_le_bytes());
+    }
+    file
+}
+
+/// Whether so many hold as much as 32 bits take a number for.
+fn hold_in_32_bits(length: usize, needed: u64) -> bool {
+    length as u64 >= needed % (1 << 32)
+}
+
 /// The defect that is played in this process.
 static PLAYED: OnceLock<&'static Defect> = OnceLock::new();
 
@@ -1013,6 +1252,7 @@ unsafe extern "C" fn raster(
         Change::Raster(call) => call(given, rows, marked, numbers),
         Change::Misread(wrong) => misread_raster(given, rows, marked, numbers, *wrong),
         Change::Unpack(wrong) => c::raster_by(wrong, given, rows, marked, numbers),
+        Change::Misnumber(wrong) => misnumbered_raster(given, rows, marked, numbers, *wrong),
         _ => c::raster(given, rows, marked, numbers),
     };
     if let (Change::Behind(chosen), 0 | 1) = (played(), result) {

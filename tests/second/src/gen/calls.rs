@@ -109,7 +109,7 @@ pub const BY_CHANCE: [&str; 12] = [
 pub enum Extent {
     /// A few small ones.
     Small,
-    /// All but those of more than 2 GB.
+    /// All but those of more than 2 GB, and every third of the long ones.
     Middle,
     Whole,
 }
@@ -138,7 +138,10 @@ pub fn fixed(seed: u64, extent: Extent, peers: Vec<Peer>) -> impl Iterator<Item 
         groups.push(Box::new(|rng| all_of(FIXED[5], bits(rng))));
         groups.push(Box::new(|rng| all_of(FIXED[6], larges(rng))));
         groups.push(Box::new(|rng| all_of(FIXED[7], fixed_moves(rng))));
-        groups.extend(long_calls::groups().into_iter().map(|(_, group)| group));
+        let part = if extent == Extent::Whole { 1 } else { 3 };
+        groups.extend(long_calls::groups().into_iter().map(|(_, make)| -> Group {
+            Box::new(move |rng| make(rng).into_iter().step_by(part).collect())
+        }));
     }
     if extent == Extent::Whole {
         groups.push(Box::new(|_| all_of(VAST, [What::Vast])));

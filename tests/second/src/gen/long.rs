@@ -122,66 +122,81 @@ pub struct LongEdge {
 }
 
 /// Both rolls, neither, and rolls that change their mind.
-pub fn edges(rng: &mut Rng) -> Vec<LongEdge> {
-    let mut strip = |kind, height, roll| Strip::new(rng, kind, height, roll);
-    let edge = |name, strip: Strip, marks: &[(RangeInclusive<usize>, u8)]| LongEdge {
-        name,
-        file: strip.file(),
-        marks: marks.to_vec(),
-    };
-    let late = 131_080;
-    let four = |lines| [(lines, 4)];
-    vec![
-        edge("rolls to 0", strip(2, late, 0), &[]),
-        edge("rolls to 1", strip(2, late, 1), &[]),
-        edge(
-            "2 in line 65,536, then 1",
-            strip(9, late, 0).with(DECIDES, 2),
-            &four(65_536..=65_536),
-        ),
-        edge("2 in line 65,536, then 2", strip(9, late, 1).with(DECIDES, 2), &four(65_536..=late)),
-        edge("1 in line 65,536, then 1", strip(3, late, 0).with(DECIDES, 1), &four(65_537..=late)),
-        edge("0 in line 65,536, then 2", strip(3, late, 1).with(DECIDES, 0), &four(65_537..=late)),
-        edge(
-            "rolls to 1, then to 0",
-            strip(10, late, 1).renumbered(131_071, 65_536, 0),
-            &four(131_071..=late),
-        ),
-        edge(
-            "rolls to 0, then to 1",
-            strip(10, late, 0).renumbered(131_072, 65_536, 1),
-            &four(131_072..=late),
-        ),
+pub const EDGES: [fn(&mut Rng) -> LongEdge; 13] = [
+    |rng| edge("rolls to 0", strip(rng, 2, 0), &[]),
+    |rng| edge("rolls to 1", strip(rng, 2, 1), &[]),
+    |rng| {
+        edge("2 in line 65,536, then 1", strip(rng, 9, 0).with(DECIDES, 2), &[(65_536..=65_536, 4)])
+    },
+    |rng| {
+        edge("2 in line 65,536, then 2", strip(rng, 9, 1).with(DECIDES, 2), &[(65_536..=LAST, 4)])
+    },
+    |rng| {
+        edge("1 in line 65,536, then 1", strip(rng, 3, 0).with(DECIDES, 1), &[(65_537..=LAST, 4)])
+    },
+    |rng| {
+        edge("0 in line 65,536, then 2", strip(rng, 3, 1).with(DECIDES, 0), &[(65_537..=LAST, 4)])
+    },
+    |rng| {
+        let strip = strip(rng, 10, 1).renumbered(131_071, 65_536, 0);
+        edge("rolls to 1, then to 0", strip, &[(131_071..=LAST, 4)])
+    },
+    |rng| {
+        let strip = strip(rng, 10, 0).renumbered(131_072, 65_536, 1);
+        edge("rolls to 0, then to 1", strip, &[(131_072..=LAST, 4)])
+    },
+    |rng| {
+        let mut strip = strip(rng, 10, 1);
+        strip.line(DECIDES).offset = 3;
+        edge("rolls to 1 in a line refused for its offset", strip, &[(65_536..=65_536, 5)])
+    },
+    |rng| {
         edge(
             "rolls to 1, then 0 once",
-            strip(1, late, 1).with(131_071, 0),
-            &four(131_071..=131_071),
-        ),
+            strip(rng, 1, 1).with(131_071, 0),
+            &[(131_071..=131_071, 4)],
+        )
+    },
+    |rng| {
         edge(
             "rolls to 0, then 1 once",
-            strip(1, late, 0).with(131_072, 1),
-            &four(131_072..=131_072),
-        ),
-        edge("1 in line 65,535", strip(2, late, 0).with(65_535, 1), &four(65_535..=65_535)),
-        edge("1 in line 65,537", strip(2, late, 1).with(65_537, 1), &four(65_537..=65_537)),
-    ]
+            strip(rng, 1, 0).with(131_072, 1),
+            &[(131_072..=131_072, 4)],
+        )
+    },
+    |rng| edge("1 in line 65,535", strip(rng, 2, 0).with(65_535, 1), &[(65_535..=65_535, 4)]),
+    |rng| edge("1 in line 65,537", strip(rng, 2, 1).with(65_537, 1), &[(65_537..=65_537, 4)]),
+];
+
+/// The last line of these.
+const LAST: usize = 131_080;
+
+fn strip(rng: &mut Rng, kind: u16, roll: u16) -> Strip {
+    Strip::new(rng, kind, LAST, roll)
 }
 
-/// Good sheets of every height, rolling to 0 and to 1.
+fn edge(name: &'static str, strip: Strip, marks: &[(RangeInclusive<usize>, u8)]) -> LongEdge {
+    LongEdge { name, file: strip.file(), marks: marks.to_vec() }
+}
+
+/// Good sheets of every height, rolling to 0 and to 1. Those of bytes are the ones that a reader
+/// may take quickly, so of each other type there are fewer.
 pub fn good(rng: &mut Rng, kind: u16) -> Vec<Vec<u8>> {
     let mut all = Vec::new();
-    for (i, height) in HEIGHTS.into_iter().enumerate() {
+    let heights: &[usize] =
+        if kind == 2 { &HEIGHTS } else { &[65_535, 65_536, 65_537, 131_071, 131_072, 131_073] };
+    for (i, &height) in heights.iter().enumerate() {
         for roll in [0, 1] {
-            // Up to 65,535 lines nothing rolls, and bytes have the most ways to be read.
-            if (height >= DECIDES || roll == 0) && (kind == 2 || i % 2 == usize::from(roll)) {
+            // Up to 65,535 lines nothing rolls.
+            let rolls = height >= DECIDES || roll == 0;
+            if rolls && (kind == 2 || (i + usize::from(kind)) % 2 == usize::from(roll)) {
                 all.push(Strip::new(rng, kind, height, roll).file());
             }
         }
     }
     // One more line than is told of, which may not decide.
-    for told in [65_534, 65_535, 65_536] {
-        all.push(Strip::new(rng, kind, told + 1, 1).told(told).file());
-    }
+    let told: &[usize] = if kind == 2 { &[65_534, 65_535, 65_536] } else { &[65_535] };
+    all.extend(told.iter().map(|&told| Strip::new(rng, kind, told + 1, 1).told(told).file()));
     // Fewer than are told of.
     all.push(Strip::new(rng, kind, 65_535, 0).told(65_537).file());
     all
@@ -200,13 +215,9 @@ pub fn damaged(rng: &mut Rng, kind: u16) -> Vec<Vec<u8>> {
         // Refused for another reason, the line decides all the same.
         let flaw = rng.pick(&[Flaw::Offset, Flaw::Count, Flaw::Spare, Flaw::Above, Flaw::Below]);
         all.push(Strip::new(rng, kind, 131_074, roll).damaged(rng, DECIDES, flaw).file());
-        // Numbers around the deciding one, such as would decide otherwise.
-        for (k, number) in [(65_535, roll), (65_535, 1 - roll), (65_537, 2 - roll)] {
-            all.push(Strip::new(rng, kind, 65_540, roll).with(k, number).file());
-        }
-        let k = rng.pick(&AROUND);
-        let number = rng.pick(&[0, 1, 2, 65_534, 65_535]);
-        all.push(Strip::new(rng, kind, 131_074, roll).with(k, number).file());
+        // A number beside the deciding one that would decide otherwise.
+        let (k, number) = rng.pick(&[(65_535, roll), (65_535, 1 - roll), (65_537, 2 - roll)]);
+        all.push(Strip::new(rng, kind, 65_540, roll).with(k, number).file());
     }
     all
 }
@@ -247,7 +258,7 @@ pub fn lost(rng: &mut Rng) -> Vec<Vec<u8>> {
     }
     for roll in [0, 1] {
         let strip = Strip::new(rng, 2, 65_537, roll);
-        all.extend([0, 5, 6, 8, 9].map(|more| strip.up_to(DECIDES, more)));
+        all.extend([0, 6, 9].map(|more| strip.up_to(DECIDES, more)));
         all.push(strip.up_to(DECIDES + 1, 7));
     }
     all
@@ -255,18 +266,19 @@ pub fn lost(rng: &mut Rng) -> Vec<Vec<u8>> {
 
 /// Sheets without line headers, which have no numbers: whole, cut off, and with a run too long.
 pub fn bare(rng: &mut Rng, kind: u16) -> Vec<Vec<u8>> {
-    let mut all = Vec::new();
-    for height in [65_536, 131_073] {
-        let ppl = rng.range(1, 2);
-        let header = some_header(rng, kind, 0, ppl, height);
-        let mut raster = some_bare(rng, kind, ppl, height);
-        all.push(sheet(&header, &raster));
-        let at = raster.len() - raster.len() % 2 - 2 * rng.range(1, 4);
-        raster[at] ^= 3;
-        raster.truncate(raster.len() - rng.below(4));
-        all.push(sheet(&header, &raster));
-    }
-    all
+    let [ppl, height] = [rng.range(1, 2), rng.pick(&[65_536, 65_537, 131_073])];
+    let header = some_header(rng, kind, 0, ppl, height);
+    let raster = some_bare(rng, kind, ppl, height);
+    let mut other = raster.clone();
+    let at = raster.len() - raster.len() % 2 - 2 * rng.range(1, 4);
+    other[at] ^= 3;
+    other.truncate(raster.len() - rng.below(4));
+    vec![sheet(&header, &raster), sheet(&header, &other)]
+}
+
+/// One of each roll, for slices that are too short.
+pub fn short(rng: &mut Rng) -> [Vec<u8>; 2] {
+    [0, 1].map(|roll| Strip::new(rng, 2, 65_537, roll).file())
 }
 
 /// A sheet of as many lines as may be.
@@ -274,53 +286,44 @@ pub fn longest(rng: &mut Rng) -> Vec<u8> {
     Strip::strict(rng, 2, 1, 1_000_000, 1).file()
 }
 
-/// Bodies changed before, at and after the line that decides, and no others.
-pub fn pairs(rng: &mut Rng, family: &'static str) -> Vec<Pair> {
-    let mut all = Vec::new();
-    let places: [&[usize]; 5] = [
-        &[65_536],
-        &[65_535, 65_537],
-        &[1, 65_536, 65_539],
-        &[131_071, 131_072],
-        &[65_536, 131_072],
-    ];
-    for (i, kind) in TYPES.into_iter().enumerate() {
-        for roll in [0, 1] {
-            let places = places[(i + 3 * usize::from(roll)) % places.len()];
-            let height = if places.contains(&131_072) { 131_074 } else { 65_540 };
-            let mut strip = Strip::new(rng, kind, height, roll);
-            if rng.one_in(3) {
-                strip.line(DECIDES).number = rng.pick(&NEITHER);
-            }
-            // A body that there is something of to change.
-            for &k in places {
-                let row = some_row(rng, kind, strip.header.ppl as usize);
-                let body = some_body(rng, kind, &row, false, true);
-                *strip.line(k) = Line { offset: 0, body, ..strip.line(k).clone() };
-            }
-            all.extend(changed_at(rng, family, strip.file(), places));
-        }
+/// Lines whose bodies are changed, before, at and after the one that decides.
+const CHANGED: [&[usize]; 5] =
+    [&[65_536], &[65_535, 65_537], &[1, 65_536, 65_539], &[131_071, 131_072], &[65_536, 131_072]];
+
+/// A sheet, and the same with other bodies in some of these lines.
+pub fn pair(rng: &mut Rng, family: &'static str, i: usize) -> Option<Pair> {
+    let (kind, roll) = (TYPES[i % TYPES.len()], i / TYPES.len() % 2);
+    let places = CHANGED[(i + 3 * roll) % CHANGED.len()];
+    let height = if places.contains(&131_072) { 131_074 } else { 65_540 };
+    let mut strip = Strip::new(rng, kind, height, roll as u16);
+    if rng.one_in(3) {
+        strip.line(DECIDES).number = rng.pick(&NEITHER);
     }
-    all
+    // A body that there is something of to change.
+    for &k in places {
+        let row = some_row(rng, kind, strip.header.ppl as usize);
+        let body = some_body(rng, kind, &row, false, true);
+        *strip.line(k) = Line { offset: 0, body, ..strip.line(k).clone() };
+    }
+    changed_at(rng, family, strip.file(), places)
 }
 
-/// Pictures of many lines, with headers and without.
-pub fn pictures(rng: &mut Rng) -> Vec<Picture> {
-    let heights = [65_536, 65_537, 131_071, 131_072, 131_073];
-    let mut all = Vec::new();
-    for (i, kind) in TYPES.into_iter().enumerate() {
-        for scn in [0, 1] {
-            let height = heights[(i + scn) % heights.len()];
-            all.push(picture(rng, kind, scn as u32, height));
-        }
-    }
-    all.push(picture(rng, 2, 1, 200_000));
-    // A byte too few.
-    let mut short = picture(rng, 9, 1, 65_536);
-    short.fit_within(-1, u32::MAX);
-    all.push(short);
-    all
-}
+/// Type, SCN and height of pictures: some of each, one past the third roll, and one of as many lines
+/// as may be.
+pub const PICTURES: [(u16, u32, usize); 12] = [
+    (2, 1, 65_536),
+    (1, 0, 65_536),
+    (1, 1, 65_537),
+    (2, 0, 131_073),
+    (3, 0, 65_537),
+    (3, 1, 131_073),
+    (9, 0, 131_072),
+    (9, 1, 131_071),
+    (10, 0, 131_071),
+    (10, 1, 131_072),
+    (2, 1, 200_000),
+    (2, 1, 1_000_000),
+];
 
 pub fn picture(rng: &mut Rng, kind: u16, scn: u32, height: usize) -> Picture {
     let ppl = if height > 200_000 { 1 } else { rng.range(1, 2) };
@@ -345,49 +348,47 @@ pub fn turnings(rng: &mut Rng) -> Vec<Turning> {
     all
 }
 
-/// Sheets that are moved, with both rolls, and must come back.
-pub fn moves(rng: &mut Rng) -> Vec<Vec<u8>> {
-    let mut all = Vec::new();
-    for (kind, roll, height) in [
-        (1, 0, 65_537),
-        (1, 1, 65_536),
-        (1, 0, 131_073),
-        (1, 1, 131_072),
-        (9, 0, 65_536),
-        (9, 1, 65_537),
-        (9, 0, 131_072),
-        (9, 1, 131_073),
-        (1, 1, 200_000),
-    ] {
-        let ppl = rng.range(1, 2);
-        all.push(Strip::strict(rng, kind, ppl, height, roll).file());
-    }
-    all
+/// Type, roll and height of sheets that are moved and come back.
+pub const MOVES: [(u16, u16, usize); 7] = [
+    (1, 0, 65_537),
+    (1, 1, 65_536),
+    (9, 0, 65_536),
+    (9, 1, 65_537),
+    (1, 0, 131_073),
+    (1, 1, 131_072),
+    (9, 1, 131_072),
+];
+
+pub fn returning(rng: &mut Rng, kind: u16, roll: u16, height: usize) -> Vec<u8> {
+    let ppl = rng.range(1, 2);
+    Strip::strict(rng, kind, ppl, height, roll).file()
 }
 
 /// The same without line headers, with any bodies.
 pub fn bare_moves(rng: &mut Rng) -> Vec<Vec<u8>> {
-    let sides = [(1, 1, 65_536), (1, 2, 131_073), (9, 2, 65_537), (9, 1, 131_072)];
+    let sides = [(1, 1, 131_072), (9, 2, 65_537)];
     sides.map(|(kind, ppl, height)| movable(rng, kind, 0, ppl, height)).to_vec()
 }
 
 /// Sheets that are not moved for a line past 65,535, most of them for its number.
-pub fn unmoved(rng: &mut Rng) -> Vec<Vec<u8>> {
-    let mut all = Vec::new();
-    for (kind, roll) in [(1, 0), (1, 1), (9, 0), (9, 1)] {
-        let mut strip = |height| Strip::strict(rng, kind, 1, height, roll);
-        all.push(strip(65_537).with(DECIDES, 2).file());
-        all.push(strip(65_540).with(65_538, 2).file());
-        all.push(strip(65_540).with(DECIDES, 1 - roll).file());
-        all.push(strip(131_074).with(131_072 - usize::from(roll), 1 - roll).file());
-        all.push(strip(131_074).renumbered(131_072, 65_536, 1 - roll).file());
-        let mut partway = strip(65_538);
-        // Good, and all of its row is before its body.
-        let body = if kind == 1 { Vec::new() } else { vec![0, 0] };
-        *partway.line(65_537) = Line { offset: 1, body, ..partway.line(65_537).clone() };
-        all.push(partway.file());
-    }
-    all
+pub fn unmoved(rng: &mut Rng, kind: u16, roll: u16) -> Vec<Vec<u8>> {
+    let mut strip = |height| Strip::strict(rng, kind, 1, height, roll);
+    let mut partway = strip(65_538);
+    // Good, and all of its row is before its body.
+    let body = if kind == 1 { Vec::new() } else { vec![0, 0] };
+    *partway.line(65_537) = Line { offset: 1, body, ..partway.line(65_537).clone() };
+    let twice = match kind {
+        1 => strip(131_074).with(131_072 - usize::from(roll), 1 - roll),
+        _ => strip(131_074).renumbered(131_072, 65_536, 1 - roll),
+    };
+    let once = [
+        strip(65_537).with(DECIDES, 2),
+        strip(65_540).with(65_538, 2 - roll),
+        strip(65_540).with(DECIDES, 1 - roll),
+        partway,
+        twice,
+    ];
+    once.map(|strip| strip.file()).to_vec()
 }
 
 /// A long sheet by chance.
@@ -435,8 +436,6 @@ pub fn some_height(rng: &mut Rng) -> usize {
 
 /// A long sheet by chance that is moved.
 pub fn some_movable(rng: &mut Rng) -> Vec<u8> {
-    let kind = rng.pick(&[1, 9]);
-    let (height, roll) = (some_height(rng), rng.below(2) as u16);
-    let ppl = rng.range(1, 2);
-    Strip::strict(rng, kind, ppl, height, roll).file()
+    let (kind, roll, height) = (rng.pick(&[1, 9]), rng.below(2) as u16, some_height(rng));
+    returning(rng, kind, roll, height)
 }

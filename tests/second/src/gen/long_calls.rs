@@ -22,8 +22,8 @@ pub const TURNINGS: &str = "long turnings";
 pub const MOVES: &str = "long moves";
 /// Those of sheets of more than 65,535 lines.
 pub const ALL: [&str; 7] = [EDGES, LINE_COUNTS, SHEETS, PAIRS, PICTURES, TURNINGS, MOVES];
-/// Makes sheets.
-type Makes = Box<dyn FnOnce(&mut Rng) -> Vec<Vec<u8>>>;
+/// Makes several of something.
+type Makes<T> = Box<dyn FnOnce(&mut Rng) -> Vec<T>>;
 
 /// Those of one family of long sheets.
 pub fn fixed(seed: u64, family: &str) -> impl Iterator<Item = Case> {
@@ -33,112 +33,171 @@ pub fn fixed(seed: u64, family: &str) -> impl Iterator<Item = Case> {
     groups.into_iter().flat_map(move |(_, make)| make(&mut rng))
 }
 
-/// The groups of long sheets. Each holds few of them at a time.
+/// The groups of long sheets. Each holds few of them at a time, and a family begins with those that
+/// are shown by the least work.
 pub fn groups() -> Vec<(&'static str, Group)> {
-    let mut all: Vec<(&'static str, Group)> = vec![
-        (EDGES, Box::new(|rng| all_of(EDGES, edges(rng)))),
-        (LINE_COUNTS, Box::new(|rng| all_of(LINE_COUNTS, line_counts(rng)))),
-    ];
-    let mut sheets = |make: Makes| {
-        let group = move |rng: &mut Rng| all_of(SHEETS, rasters(rng, make));
-        all.push((SHEETS, Box::new(group)));
+    let mut all: Vec<(&'static str, Group)> = Vec::new();
+    let mut add = |family, make: Makes<What>| {
+        all.push((family, Box::new(move |rng: &mut Rng| all_of(family, make(rng))) as Group));
     };
-    sheets(Box::new(long::neither));
-    sheets(Box::new(long::lost));
-    for kind in TYPES {
-        sheets(Box::new(move |rng| long::good(rng, kind)));
-        sheets(Box::new(move |rng| long::damaged(rng, kind)));
+    for make in long::EDGES {
+        add(EDGES, Box::new(move |rng| vec![What::LongEdge(make(rng))]));
     }
-    sheets(Box::new(|rng| TYPES.into_iter().flat_map(|kind| long::bare(rng, kind)).collect()));
-    sheets(Box::new(|rng| vec![long::longest(rng)]));
-    all.push((
-        PAIRS,
-        Box::new(|rng| all_of(PAIRS, long::pairs(rng, PAIRS).into_iter().map(What::Pair))),
-    ));
-    all.push((PICTURES, Box::new(|rng| all_of(PICTURES, pictures(rng)))));
-    all.push((
-        TURNINGS,
-        Box::new(|rng| all_of(TURNINGS, long::turnings(rng).into_iter().map(What::Trip))),
-    ));
-    all.push((MOVES, Box::new(|rng| all_of(MOVES, moves(rng)))));
+    add(LINE_COUNTS, Box::new(line_counts));
+    add(LINE_COUNTS, Box::new(sheets_said_long));
+    add(LINE_COUNTS, Box::new(most_lines));
+    for make in sheets() {
+        add(SHEETS, Box::new(|rng| rasters(rng, make)));
+    }
+    add(SHEETS, Box::new(short));
+    for i in 0..10 {
+        add(
+            PAIRS,
+            Box::new(move |rng| long::pair(rng, PAIRS, i).map(What::Pair).into_iter().collect()),
+        );
+    }
+    for (kind, scn, height) in long::PICTURES {
+        add(PICTURES, Box::new(move |rng| vec![picture(rng, kind, scn, height)]));
+    }
+    add(PICTURES, Box::new(short_output));
+    add(TURNINGS, Box::new(|rng| long::turnings(rng).into_iter().map(What::Trip).collect()));
+    for (i, (kind, roll, height)) in long::MOVES.into_iter().enumerate() {
+        add(
+            MOVES,
+            Box::new(move |rng| {
+                let file = long::returning(rng, kind, roll, height);
+                vec![What::ThereAndBack { file, returns: true }]
+            }),
+        );
+        if let Some(&(kind, roll)) = [(1, 0), (9, 1), (1, 1), (9, 0)].get(i) {
+            add(MOVES, Box::new(move |rng| unmoved(rng, kind, roll)));
+        }
+    }
+    add(MOVES, Box::new(bare_moves));
     all
 }
 
-fn edges(rng: &mut Rng) -> Vec<What> {
-    long::edges(rng).into_iter().map(What::LongEdge).collect()
+/// Sheets of every kind, to be read.
+fn sheets() -> Vec<Makes<Vec<u8>>> {
+    let mut all: Vec<Makes<Vec<u8>>> = vec![Box::new(long::neither), Box::new(long::lost)];
+    for kind in TYPES {
+        all.push(Box::new(move |rng| long::good(rng, kind)));
+        all.push(Box::new(move |rng| long::damaged(rng, kind)));
+        all.push(Box::new(move |rng| long::bare(rng, kind)));
+    }
+    all.push(Box::new(|rng| vec![long::longest(rng)]));
+    all
 }
 
-/// Long sheets with slices that are just long enough, or a little more; one with slices too short.
-fn rasters(rng: &mut Rng, make: Makes) -> Vec<What> {
-    let mut all = Vec::new();
-    for file in make(rng) {
+/// Long sheets with slices that are just long enough, or a little more.
+fn rasters(rng: &mut Rng, make: Makes<Vec<u8>>) -> Vec<What> {
+    let files = make(rng);
+    let mut lent = |file: Vec<u8>| {
         let enough = needed(&file);
         let (pixels, marks) = (enough.pixels + rng.below(4), enough.marks + rng.below(3));
-        if all.is_empty() {
-            let lend = Lend { pixels: enough.pixels - 1, ..enough };
-            all.push(What::Raster { file: file.clone(), lend });
-            let lend = Lend { marks: enough.marks - 1, ..enough };
+        What::Raster { file, lend: Lend { pixels, marks, ..enough } }
+    };
+    files.into_iter().map(&mut lent).collect()
+}
+
+/// Either slice a byte short, and so short as a number of lines of 16 bits would have it.
+fn short(rng: &mut Rng) -> Vec<What> {
+    let mut all = Vec::new();
+    for file in long::short(rng) {
+        let enough = needed(&file);
+        for lend in [
+            Lend { pixels: enough.pixels - 1, ..enough },
+            Lend { marks: enough.marks - 1, ..enough },
+            Lend { pixels: enough.pixels - 2 * 65_536, ..enough },
+            Lend { marks: enough.marks - 65_536, ..enough },
+        ] {
             all.push(What::Raster { file: file.clone(), lend });
         }
-        all.push(What::Raster { file, lend: Lend { pixels, marks, ..enough } });
     }
     all
 }
 
-/// A picture of as many lines as may be is written and read back, too.
-fn pictures(rng: &mut Rng) -> Vec<What> {
-    let mut all = long::pictures(rng);
-    all.push(long::picture(rng, 2, 1, MOST_LINES as usize));
-    all.into_iter().map(|picture| What::Picture { picture, answer: WRITE_ANSWER }).collect()
+fn picture(rng: &mut Rng, kind: u16, scn: u32, height: usize) -> What {
+    What::Picture { picture: long::picture(rng, kind, scn, height), answer: WRITE_ANSWER }
 }
 
-fn moves(rng: &mut Rng) -> Vec<What> {
-    let back = |returns| move |file| What::ThereAndBack { file, returns };
-    let mut all: Vec<What> = long::moves(rng).into_iter().map(back(true)).collect();
-    all.extend(long::bare_moves(rng).into_iter().map(back(false)));
-    for file in long::unmoved(rng) {
-        let room = 2 * file.len();
-        all.push(What::Move(Move { file, room, answer: MOVE_ANSWER }));
-    }
-    all
+/// Output that is a byte too short.
+fn short_output(rng: &mut Rng) -> Vec<What> {
+    let mut picture = long::picture(rng, 9, 1, 65_536);
+    picture.fit_within(-1, u32::MAX);
+    vec![What::Picture { picture, answer: WRITE_ANSWER }]
 }
 
-/// Every call with numbers of lines on both sides of the limit and of 65,535. The sheets have hardly
-/// any raster data: all but their first lines are lost.
+fn unmoved(rng: &mut Rng, kind: u16, roll: u16) -> Vec<What> {
+    let moved = |file: Vec<u8>| Move { room: 2 * file.len(), file, answer: MOVE_ANSWER };
+    long::unmoved(rng, kind, roll).into_iter().map(|file| What::Move(moved(file))).collect()
+}
+
+fn bare_moves(rng: &mut Rng) -> Vec<What> {
+    let back = |file| What::ThereAndBack { file, returns: false };
+    long::bare_moves(rng).into_iter().map(back).collect()
+}
+
+/// Numbers of lines on both sides of the limit and of 65,535.
+const COUNTS: [u32; 10] =
+    [0, 1, 65_535, 65_536, 65_537, 131_072, 999_999, 1_000_000, 1_000_001, 1_048_577];
+
+/// Every call that takes little work by them.
 fn line_counts(rng: &mut Rng) -> Vec<What> {
-    let mut all = Vec::new();
-    let counts = [0, 1, 65_535, 65_536, 65_537, 131_072, 999_999, 1_000_000, 1_000_001, 1_048_577];
-    for nol in counts {
-        let header = Draft { scn: 1, ppl: 1, nol, ..Draft::plain(9, 2) };
-        let file = sheet(&header, &words(&[0x5900, 3, 1, 0, 1, 0x5900]));
+    let mut all = products(rng);
+    for nol in COUNTS {
+        let file = said_long(nol);
         all.push(What::Header { file: file.clone(), answer: HEADER_ANSWER, first: None });
-        all.push(What::Color { file: file.clone(), value: 1, answer: COLOR_ANSWER });
-        all.push(What::Raster { file: file.clone(), lend: needed(&file) });
-        all.push(What::Move(Move { file, room: 3_000, answer: MOVE_ANSWER }));
-        let mut picture = Picture::plain(2, 1, 4, 0, vec![1; 4]);
-        picture.nol = nol;
+        all.push(What::Color { file, value: 1, answer: COLOR_ANSWER });
+        let picture = Picture { nol, ..Picture::plain(2, 1, 4, 0, vec![1; 4]) };
         all.push(What::Picture { picture, answer: WRITE_ANSWER });
         for way in [0, 1] {
             let turning = Turning::new(rng, way, 2, (1, 4), [0, 0]);
             all.push(What::Turning(Turning { nol, ..turning }));
         }
     }
-    for nol in [MOST_LINES, MOST_LINES + 1] {
+    for way in [0, 1] {
+        all.push(What::Turning(Turning::within(rng, way, 3, (1, 65_536), [0, 0], usize::MAX)));
+    }
+    all
+}
+
+/// A sheet of one line and a part of the next.
+fn said_long(nol: u32) -> Vec<u8> {
+    let header = Draft { scn: 1, ppl: 1, nol, ..Draft::plain(9, 2) };
+    sheet(&header, &words(&[0x5900, 3, 1, 0, 1, 0x5900]))
+}
+
+/// Sheets that are read and moved by those numbers: all but their first lines are lost. Those of the
+/// most lines, which take the longest, come last.
+fn sheets_said_long(_: &mut Rng) -> Vec<What> {
+    let mut all = Vec::new();
+    let longest = [MOST_LINES - 1, MOST_LINES];
+    for nol in COUNTS.into_iter().filter(|nol| !longest.contains(nol)).chain([MOST_LINES]) {
+        let file = said_long(nol);
+        all.push(What::Raster { file: file.clone(), lend: needed(&file) });
+        all.push(What::Move(Move { file, room: 3_000, answer: MOVE_ANSWER }));
+    }
+    all
+}
+
+/// As many lines as may be, and one more, with all that they need.
+fn most_lines(rng: &mut Rng) -> Vec<What> {
+    let mut all = Vec::new();
+    for nol in [MOST_LINES + 1, MOST_LINES] {
         for (kind, scn) in [(2, 0), (10, 1)] {
             let file = Draft { scn, ppl: 1, nol, ..Draft::plain(kind, 2) }.bytes();
             all.push(What::Raster { lend: needed(&file), file });
         }
-        // All that they need.
-        let room = 1_024 + nol;
+        let pixels = vec![1; nol as usize];
         let picture =
-            Picture { room, ..Picture::plain(2, 1, nol as usize, 0, vec![1; nol as usize]) };
+            Picture { room: 1_024 + nol, ..Picture::plain(2, 1, pixels.len(), 0, pixels) };
         all.push(What::Picture { picture, answer: WRITE_ANSWER });
         for way in [0, 1] {
             let turning = Turning::within(rng, way, 3, (1, nol as usize), [0, 0], usize::MAX);
             all.push(What::Turning(turning));
         }
     }
-    all.extend(products(rng));
     all
 }
 
@@ -164,9 +223,9 @@ pub fn some_case(rng: &mut Rng, family: &'static str) -> What {
     match rng.below(8) {
         0 => What::ThereAndBack { file: long::some_movable(rng), returns: true },
         1 => {
-            let (kind, scn, height) =
-                (rng.pick(&TYPES), rng.below(2) as u32, long::some_height(rng));
-            What::Picture { picture: long::picture(rng, kind, scn, height), answer: WRITE_ANSWER }
+            let (kind, scn) = (rng.pick(&TYPES), rng.below(2) as u32);
+            let height = long::some_height(rng);
+            picture(rng, kind, scn, height)
         }
         2 => {
             let sides = (rng.range(1, 2), long::some_height(rng));

@@ -29,7 +29,9 @@ impl Line {
 
     pub fn bytes(&self) -> Vec<u8> {
         let follow = self.follow.unwrap_or((self.body.len() / 2 + 2) as u16);
-        let mut bytes = words(&[self.id, follow, self.number, self.offset]);
+        let words = [self.id, follow, self.number, self.offset];
+        let mut bytes = Vec::with_capacity(8 + self.body.len());
+        words.iter().for_each(|word| bytes.extend(word.to_le_bytes()));
         bytes.extend(&self.body);
         bytes
     }
@@ -48,7 +50,9 @@ pub fn sheet(header: &Draft, raster: &[u8]) -> Vec<u8> {
 
 /// A sheet with line headers.
 pub fn headed(header: &Draft, lines: &[Line]) -> Vec<u8> {
-    sheet(header, &lines.iter().flat_map(Line::bytes).collect::<Vec<u8>>())
+    let mut file = header.bytes();
+    lines.iter().for_each(|line| file.extend(line.bytes()));
+    file
 }
 
 /// A header for a sheet: accepted, of a few blocks mostly, with tables and junk.

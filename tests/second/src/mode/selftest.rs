@@ -65,8 +65,15 @@ const MODES: [&str; 5] = ["header", "sheets", "pairs", "write", "turn"];
 const WITH_PEERS: [&str; 3] = ["header", "sheets", "write"];
 
 /// What no pair shows: none is longer than the listing program takes, hardly any has a body for as
-/// many pixels as an offset that is too far leaves in 16 bits, and all have line headers.
-const NOT_IN_PAIRS: [&str; 3] = ["cuts-long-input", "offset-in-16-bits", "10-loses-chain"];
+/// many pixels as an offset that is too far leaves in 16 bits, and all have line headers, and no more
+/// lines than are lent marks.
+const NOT_IN_PAIRS: [&str; 5] = [
+    "cuts-long-input",
+    "offset-in-16-bits",
+    "10-loses-chain",
+    "nol-65536-refused",
+    "nol-1000001-taken",
+];
 
 /// The modes that try a stand-in.
 fn modes_of(program: &str) -> impl Iterator<Item = &'static str> + '_ {
@@ -239,7 +246,9 @@ impl Bench {
             let wanted = tells(&["case ", defect.told]);
             let words = ["--until-fault", "--patience", SHORT_PATIENCE];
             let words = if defect.told == "runs on" { &words } else { &words[..1] };
-            trials.push(trial(defect.name, defect.name, words, wanted));
+            let family = defect.family.map(|family| ["--family", family]);
+            let words = [words, family.as_ref().map_or(&[], |words| &words[..])].concat();
+            trials.push(trial(defect.name, defect.name, &words, wanted));
         }
         // Demand 3 by itself, whatever the model says.
         for (name, told) in stand_in::OF_PAIRS {

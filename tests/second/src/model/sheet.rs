@@ -182,8 +182,10 @@ fn headed_line(
 }
 
 /// A row whose first pixels are 0, and then those of a body.
-fn from_column(offset: u64, rest: Vec<u64>) -> Vec<u64> {
-    [vec![0; offset as usize], rest].concat()
+fn from_column(offset: u64, mut rest: Vec<u64>) -> Vec<u64> {
+    rest.resize(rest.len() + offset as usize, 0);
+    rest.rotate_right(offset as usize);
+    rest
 }
 
 /// A body whose length the line's header gives, for so many pixels: marks 6, 10, 7 and 8.
@@ -220,7 +222,11 @@ fn whole_body(by: &Unpacking, body: &[u8], kind: u64, pixels: u64) -> Reading {
 
 /// The pixels of runs of a value and a count.
 fn spread(runs: &[(u64, u64)]) -> Vec<u64> {
-    runs.iter().flat_map(|&(value, count)| vec![value; count as usize]).collect()
+    let mut row = Vec::new();
+    for &(value, count) in runs {
+        row.resize(row.len() + count as usize, value);
+    }
+    row
 }
 
 /// A line that only its own pixels bound: marks 1 and 7, both lost, and 10, which is not.
