@@ -73,6 +73,11 @@ fn number_at(file: &[u8], at: usize) -> Option<u64> {
     file.get(at..at + 8).map(|header| word(header, 4))
 }
 
+/// The number stored in line 65,536, if the chain reaches that and its header lies in the file.
+pub fn decides(file: &[u8], nol: usize) -> Option<u64> {
+    chain(file, nol).0.get(65_535).and_then(|&at| number_at(file, at))
+}
+
 /// The number that line `k` must have where line 65,536 has one that decides.
 fn number(k: usize, decides: Option<u64>) -> u64 {
     match decides {

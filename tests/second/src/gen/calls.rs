@@ -138,16 +138,16 @@ pub fn fixed(seed: u64, extent: Extent, peers: Vec<Peer>) -> impl Iterator<Item 
         groups.push(Box::new(|rng| all_of(FIXED[5], bits(rng))));
         groups.push(Box::new(|rng| all_of(FIXED[6], larges(rng))));
         groups.push(Box::new(|rng| all_of(FIXED[7], fixed_moves(rng))));
-        let part = if extent == Extent::Whole { 1 } else { 3 };
-        groups.extend(long_calls::groups().into_iter().map(|(_, make)| -> Group {
-            Box::new(move |rng| make(rng).into_iter().step_by(part).collect())
-        }));
-    }
-    if extent == Extent::Whole {
-        groups.push(Box::new(|_| all_of(VAST, [What::Vast])));
     }
     let mut rng = Rng::new(seed, u64::MAX - 1);
-    groups.into_iter().flat_map(move |make| make(&mut rng))
+    let cases = groups.into_iter().flat_map(move |make| make(&mut rng));
+    let (long, part) = match extent {
+        Extent::Small => (0, 1),
+        Extent::Middle => (usize::MAX, 3),
+        Extent::Whole => (usize::MAX, 1),
+    };
+    let vast = (extent == Extent::Whole).then_some(Case { family: VAST, what: What::Vast });
+    cases.chain(long_calls::fixed(seed, None).step_by(part).take(long)).chain(vast)
 }
 
 pub fn all_of(family: &'static str, list: impl IntoIterator<Item = What>) -> Vec<Case> {

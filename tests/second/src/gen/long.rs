@@ -122,7 +122,7 @@ pub struct LongEdge {
 }
 
 /// Both rolls, neither, and rolls that change their mind.
-pub const EDGES: [fn(&mut Rng) -> LongEdge; 13] = [
+pub const EDGES: [fn(&mut Rng) -> LongEdge; 15] = [
     |rng| edge("rolls to 0", strip(rng, 2, 0), &[]),
     |rng| edge("rolls to 1", strip(rng, 2, 1), &[]),
     |rng| {
@@ -166,6 +166,19 @@ pub const EDGES: [fn(&mut Rng) -> LongEdge; 13] = [
     },
     |rng| edge("1 in line 65,535", strip(rng, 2, 0).with(65_535, 1), &[(65_535..=65_535, 4)]),
     |rng| edge("1 in line 65,537", strip(rng, 2, 1).with(65_537, 1), &[(65_537..=65_537, 4)]),
+    |rng| {
+        let mut strip = strict(rng, 1, 1);
+        strip.line(DECIDES).body = vec![1, 0];
+        edge("rolls to 1 in a line with a spare bit set", strip, &[(65_536..=65_536, 10)])
+    },
+    |rng| {
+        let mut strip = strict(rng, 10, 0);
+        let bodies =
+            [(65_537, vec![7, 0, 2, 0]), (65_538, vec![7, 0, 0, 0]), (131_072, vec![7, 0])];
+        bodies.into_iter().for_each(|(k, body)| strip.line(k).body = body);
+        let marks = [(65_537..=65_537, 7), (65_538..=65_538, 8), (131_072..=131_072, 6)];
+        edge("bodies refused past line 65,535", strip, &marks)
+    },
 ];
 
 /// The last line of these.
@@ -173,6 +186,11 @@ const LAST: usize = 131_080;
 
 fn strip(rng: &mut Rng, kind: u16, roll: u16) -> Strip {
     Strip::new(rng, kind, LAST, roll)
+}
+
+/// The same of one pixel, from the rows' start, with the writer's bodies.
+fn strict(rng: &mut Rng, kind: u16, roll: u16) -> Strip {
+    Strip::strict(rng, kind, 1, LAST, roll)
 }
 
 fn edge(name: &'static str, strip: Strip, marks: &[(RangeInclusive<usize>, u8)]) -> LongEdge {
@@ -207,8 +225,8 @@ pub fn damaged(rng: &mut Rng, kind: u16) -> Vec<Vec<u8>> {
     let mut all = Vec::new();
     for roll in [0, 1] {
         let mut strip = Strip::new(rng, kind, 131_074, roll);
-        for k in AROUND {
-            let flaw = rng.pick(&FLAWS[3..]);
+        let flaws = FLAWS[3..].iter().cycle().skip(rng.below(7));
+        for (k, &flaw) in AROUND.into_iter().zip(flaws) {
             strip = strip.damaged(rng, k, flaw);
         }
         all.push(strip.file());
@@ -391,9 +409,9 @@ pub fn unmoved(rng: &mut Rng, kind: u16, roll: u16) -> Vec<Vec<u8>> {
     once.map(|strip| strip.file()).to_vec()
 }
 
-/// A long sheet by chance.
-pub fn some_long(rng: &mut Rng) -> Vec<u8> {
-    let kind = rng.pick(&TYPES);
+/// A long sheet by chance, of one of these types.
+pub fn some_long(rng: &mut Rng, kinds: &[u16]) -> Vec<u8> {
+    let kind = rng.pick(kinds);
     let roll = rng.below(2) as u16;
     let height = some_height(rng);
     let mut strip = Strip::new(rng, kind, height, roll);

@@ -25,17 +25,17 @@ pub const ALL: [&str; 7] = [EDGES, LINE_COUNTS, SHEETS, PAIRS, PICTURES, TURNING
 /// Makes several of something.
 type Makes<T> = Box<dyn FnOnce(&mut Rng) -> Vec<T>>;
 
-/// Those of one family of long sheets.
-pub fn fixed(seed: u64, family: &str) -> impl Iterator<Item = Case> {
+/// The cases that are always run, all or those of one family.
+pub fn fixed(seed: u64, family: Option<&str>) -> impl Iterator<Item = Case> {
     let mut groups = groups();
-    groups.retain(|(name, _)| *name == family);
-    let mut rng = Rng::new(seed, u64::MAX - 1);
+    groups.retain(|(name, _)| family.is_none_or(|family| *name == family));
+    let mut rng = Rng::new(seed, u64::MAX - 2);
     groups.into_iter().flat_map(move |(_, make)| make(&mut rng))
 }
 
 /// The groups of long sheets. Each holds few of them at a time, and a family begins with those that
 /// are shown by the least work.
-pub fn groups() -> Vec<(&'static str, Group)> {
+fn groups() -> Vec<(&'static str, Group)> {
     let mut all: Vec<(&'static str, Group)> = Vec::new();
     let mut add = |family, make: Makes<What>| {
         all.push((family, Box::new(move |rng: &mut Rng| all_of(family, make(rng))) as Group));
@@ -233,12 +233,12 @@ pub fn some_case(rng: &mut Rng, family: &'static str) -> What {
             What::Trip(Turning::within(rng, way, slo, sides, [0, 2], usize::MAX))
         }
         3 => {
-            let file = some_long(rng);
+            let file = some_long(rng, &[1, 9]);
             let room = 2 * file.len();
             What::Move(Move { file, room, answer: MOVE_ANSWER })
         }
         _ => {
-            let file = some_long(rng);
+            let file = some_long(rng, &TYPES);
             let pair = if rng.one_in(3) { changed(rng, family, file.clone()) } else { None };
             pair.map_or_else(|| raster(rng, file), What::Pair)
         }

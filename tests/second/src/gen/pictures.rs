@@ -288,8 +288,8 @@ fn many_lines() -> Vec<Picture> {
     for nol in [1_000_000, 1_000_001] {
         all.push(Picture::plain(2, 1, nol, 0, vec![1; 150_000]));
     }
-    // Pixels as 32 bits count them: none, and 4,096.
-    for (ppl, nol) in [(32_768, 131_072), (61_681, 69_632)] {
+    // Far more; 32 bits take the first two for none and for 4,096.
+    for (ppl, nol) in [(32_768, 131_072), (61_681, 69_632), (65_535, 1_000_000)] {
         all.push(Picture::plain(2, ppl, nol, 0, vec![1; 4_096]));
     }
     all

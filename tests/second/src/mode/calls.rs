@@ -1,7 +1,7 @@
 //! Mode `calls`: the C functions, called in this process. Every case is one call, or a pair or a
 //! round trip of them, compared whole.
 
-use super::starts;
+use super::{rolls, starts};
 use crate::calls::call::{numbers, Bench, Done, Lend, Read};
 use crate::calls::{demand_3, vast, Calls};
 use crate::edges::{Edge, MovedEdge, TurnedEdge, WrittenEdge};
@@ -53,7 +53,7 @@ pub fn run(calls: &Calls, peer: &Path, scope: &Scope, plan: &Plan) -> Result<Exi
     let by_chance = family.is_none_or(|family| BY_CHANCE.contains(&family));
     let mut fixed: Box<dyn Iterator<Item = Case>> = match family {
         None => Box::new(fixed(plan.seed, extent, Peer::all(peer)?)),
-        Some(family) => Box::new(long_calls::fixed(plan.seed, family)),
+        Some(family) => Box::new(long_calls::fixed(plan.seed, Some(family))),
     };
     let needed = match family {
         Some(family) => Needed { families: vec![family], ..Needed::default() },
@@ -133,6 +133,8 @@ fn needed(extent: Extent, plan: &Plan) -> Needed {
         reached.extend(["pair refused 23", "pair refused 24", "pair refused 29"].map(Into::into));
     }
     if extent == Extent::Whole {
+        reached.extend(rolls::all());
+        reached.extend([0, 41, 42].map(long_move));
         families.push(VAST);
         let calls = ["header", "color", "raster", "write", "move"];
         reached.extend(calls.map(|c| format!("{c} refused 10")));
@@ -213,6 +215,9 @@ fn reached_by(read: &Read, file: &[u8], reached: &mut Vec<String>) {
         if scn == 1 {
             let lines = demand_3::offsets(file, nol).into_iter().zip(marks);
             reached.extend(starts::reached(kind, long(file, 184), lines));
+            if let Some(marks) = read.marks.lent().get(65_535..nol).filter(|m| !m.is_empty()) {
+                reached.extend(rolls::reached(kind, demand_3::decides(file, nol), marks));
+            }
         }
         let kind = if scn == 1 { "with headers" } else { "without" };
         let marks = (0..256).filter(|&mark| seen[mark]);
@@ -570,6 +575,14 @@ fn check_trip(bench: &Bench, rng: &mut Rng, turning: &Turning, reached: &mut Vec
     }))
 }
 
+/// What became of a move of more than 65,535 lines with headers.
+fn long_move(result: u32) -> String {
+    match result {
+        0 => "long sheet moved".to_string(),
+        number => format!("long move refused {number}"),
+    }
+}
+
 fn moved(kind: u64, scn: u8) -> String {
     format!("moved from type {kind} scn {scn}")
 }
@@ -589,6 +602,9 @@ fn check_move(
         0 => moved(word(file, 4), file[195]),
         number => format!("move refused {number}"),
     });
+    if file.len() > 192 && long(file, 188) > 65_535 && file[195] == 1 {
+        reached.push(long_move(done.result));
+    }
     let answered = done.result == 0 && answer >= MOVE_ANSWER;
     done.filled.truncate(if answered { long(&done.answer, 0) as usize } else { 0 });
     (done, found)

@@ -3,6 +3,7 @@
 pub mod calls;
 pub mod header;
 pub mod pairs;
+pub mod rolls;
 pub mod selftest;
 pub mod sheets;
 pub mod starts;
