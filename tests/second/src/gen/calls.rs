@@ -109,7 +109,7 @@ pub const BY_CHANCE: [&str; 12] = [
 pub enum Extent {
     /// A few small ones.
     Small,
-    /// All but those of more than 2 GB, and every third of the long ones.
+    /// All but those of more than 2 GB and two thirds of the long ones.
     Middle,
     Whole,
 }
@@ -141,13 +141,10 @@ pub fn fixed(seed: u64, extent: Extent, peers: Vec<Peer>) -> impl Iterator<Item 
     }
     let mut rng = Rng::new(seed, u64::MAX - 1);
     let cases = groups.into_iter().flat_map(move |make| make(&mut rng));
-    let (long, part) = match extent {
-        Extent::Small => (0, 1),
-        Extent::Middle => (usize::MAX, 3),
-        Extent::Whole => (usize::MAX, 1),
-    };
+    let one_in = if extent == Extent::Middle { 3 } else { 1 };
+    let long = (extent != Extent::Small).then(|| long_calls::fixed(seed, None, one_in));
     let vast = (extent == Extent::Whole).then_some(Case { family: VAST, what: What::Vast });
-    cases.chain(long_calls::fixed(seed, None).step_by(part).take(long)).chain(vast)
+    cases.chain(long.into_iter().flatten()).chain(vast)
 }
 
 pub fn all_of(family: &'static str, list: impl IntoIterator<Item = What>) -> Vec<Case> {

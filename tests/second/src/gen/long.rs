@@ -15,7 +15,7 @@ use std::iter::repeat;
 use std::ops::RangeInclusive;
 
 /// Heights around the first roll, around the second one to 1 and to 0, and past the third.
-pub const HEIGHTS: [usize; 9] =
+const HEIGHTS: [usize; 9] =
     [65_534, 65_535, 65_536, 65_537, 131_070, 131_071, 131_072, 131_073, 200_000];
 
 /// The line whose number decides what comes after 65,535.
@@ -31,8 +31,7 @@ fn numbers(roll: u16) -> impl Iterator<Item = u16> {
 }
 
 /// A sheet with line headers.
-#[derive(Clone)]
-pub struct Strip {
+struct Strip {
     header: Draft,
     lines: Vec<Line>,
 }
@@ -197,17 +196,17 @@ fn edge(name: &'static str, strip: Strip, marks: &[(RangeInclusive<usize>, u8)])
     LongEdge { name, file: strip.file(), marks: marks.to_vec() }
 }
 
-/// Good sheets of every height, rolling to 0 and to 1. Those of bytes are the ones that a reader
-/// may take quickly, so of each other type there are fewer.
+/// Good sheets of every height, rolling to 0 and to 1. Those of bytes a reader may take more quickly
+/// than others, so there are more of them, all from their rows' start.
 pub fn good(rng: &mut Rng, kind: u16) -> Vec<Vec<u8>> {
     let mut all = Vec::new();
-    let heights: &[usize] =
-        if kind == 2 { &HEIGHTS } else { &[65_535, 65_536, 65_537, 131_071, 131_072, 131_073] };
-    for (i, &height) in heights.iter().enumerate() {
-        for roll in [0, 1] {
-            // Up to 65,535 lines nothing rolls.
-            let rolls = height >= DECIDES || roll == 0;
-            if rolls && (kind == 2 || (i + usize::from(kind)) % 2 == usize::from(roll)) {
+    for (i, height) in HEIGHTS.into_iter().enumerate() {
+        // Up to 65,535 lines nothing rolls.
+        for roll in if height < DECIDES { 0..=0 } else { 0..=1 } {
+            if kind == 2 {
+                let ppl = rng.range(1, 3);
+                all.push(Strip::strict(rng, kind, ppl, height, roll).file());
+            } else if (i as u16 + roll + kind) % 2 == 0 && height < 200_000 {
                 all.push(Strip::new(rng, kind, height, roll).file());
             }
         }

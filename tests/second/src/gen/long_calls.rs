@@ -12,6 +12,7 @@ use crate::calls::call::Lend;
 use crate::model::c::{COLOR_ANSWER, HEADER_ANSWER, MOVE_ANSWER, RASTER_ANSWER, WRITE_ANSWER};
 use crate::model::MOST_LINES;
 use crate::rng::Rng;
+use std::collections::BTreeMap;
 
 pub const EDGES: &str = "long edges by hand";
 pub const LINE_COUNTS: &str = "numbers of lines";
@@ -22,13 +23,20 @@ pub const TURNINGS: &str = "long turnings";
 pub const MOVES: &str = "long moves";
 /// Those of sheets of more than 65,535 lines.
 pub const ALL: [&str; 7] = [EDGES, LINE_COUNTS, SHEETS, PAIRS, PICTURES, TURNINGS, MOVES];
+
 /// Makes several of something.
 type Makes<T> = Box<dyn FnOnce(&mut Rng) -> Vec<T>>;
 
-/// The cases that are always run, all or those of one family.
-pub fn fixed(seed: u64, family: Option<&str>) -> impl Iterator<Item = Case> {
+/// The cases that are always run: all, or those of one family; every group of a family, or one in
+/// so many.
+pub fn fixed(seed: u64, family: Option<&str>, one_in: usize) -> impl Iterator<Item = Case> {
     let mut groups = groups();
-    groups.retain(|(name, _)| family.is_none_or(|family| *name == family));
+    let mut before = BTreeMap::<&str, usize>::new();
+    groups.retain(|(name, _)| {
+        let count = before.entry(name).or_default();
+        *count += 1;
+        (*count - 1) % one_in == 0 && family.is_none_or(|family| *name == family)
+    });
     let mut rng = Rng::new(seed, u64::MAX - 2);
     groups.into_iter().flat_map(move |(_, make)| make(&mut rng))
 }

@@ -53,7 +53,7 @@ pub fn run(calls: &Calls, peer: &Path, scope: &Scope, plan: &Plan) -> Result<Exi
     let by_chance = family.is_none_or(|family| BY_CHANCE.contains(&family));
     let mut fixed: Box<dyn Iterator<Item = Case>> = match family {
         None => Box::new(fixed(plan.seed, extent, Peer::all(peer)?)),
-        Some(family) => Box::new(long_calls::fixed(plan.seed, Some(family))),
+        Some(family) => Box::new(long_calls::fixed(plan.seed, Some(family), 1)),
     };
     let needed = match family {
         Some(family) => Needed { families: vec![family], ..Needed::default() },
