@@ -752,6 +752,16 @@ pub fn written_edges() -> Vec<WrittenEdge> {
     let mut printed = b"refused 27\n".to_vec();
     printed.extend([FILL; 133_000]);
     all.push(WrittenEdge { name: "14: 65,534 words", picture, printed });
+    for (name, nol, head) in [
+        ("more lines than may be", 1_000_001, "refused 20\n"),
+        ("as many lines as may be, one pixel", 1_000_000, "refused 23\n"),
+        ("65,536 lines, one pixel", 65_536, "refused 23\n"),
+    ] {
+        let plain = Picture::plain(2, 1, 1, 0, vec![9]);
+        let picture = Picture { nol, room: 1_100, fill: FILL, ..plain };
+        let printed = [head.as_bytes(), &[FILL; 1_100]].concat();
+        all.push(WrittenEdge { name, picture, printed });
+    }
     all
 }
 

@@ -368,13 +368,20 @@ fn ends(plan: &Plan, outcome: &Outcome, hung: &AtomicUsize) -> Option<String> {
         .then(|| "programs run on".to_string())
 }
 
+/// Bytes of a part that a hex dump shows: of more, nobody reads it.
+const MOST_HEX: usize = 1 << 18;
+
 /// Writes a hex dump to read, and each part raw to run again.
 fn dump(dir: &Path, case: usize, fault: &Fault) -> io::Result<PathBuf> {
     fs::create_dir_all(dir)?;
     let mut text = format!("{}\n", fault.text);
     for (name, bytes) in &fault.dumps {
+        let shown = &bytes[..bytes.len().min(MOST_HEX)];
         let _ = writeln!(text, "\n{name}, {} bytes", bytes.len());
-        text.push_str(&hex(bytes));
+        text.push_str(&hex(shown));
+        if shown.len() < bytes.len() {
+            let _ = writeln!(text, "and so on");
+        }
         fs::write(dir.join(format!("case-{case}.{name}")), bytes)?;
     }
     let path = dir.join(format!("case-{case}.hex"));

@@ -196,8 +196,8 @@ fn edge(name: &'static str, strip: Strip, marks: &[(RangeInclusive<usize>, u8)])
     LongEdge { name, file: strip.file(), marks: marks.to_vec() }
 }
 
-/// Good sheets of every height, rolling to 0 and to 1. Those of bytes a reader may take more quickly
-/// than others, so there are more of them, all from their rows' start.
+/// Good sheets of every height, rolling to 0 and to 1. Those of bytes a reader may take more
+/// quickly than others, so there are more of them, all from their rows' start.
 pub fn good(rng: &mut Rng, kind: u16) -> Vec<Vec<u8>> {
     let mut all = Vec::new();
     for (i, height) in HEIGHTS.into_iter().enumerate() {
@@ -325,8 +325,8 @@ pub fn pair(rng: &mut Rng, family: &'static str, i: usize) -> Option<Pair> {
     changed_at(rng, family, strip.file(), places)
 }
 
-/// Type, SCN and height of pictures: some of each, one past the third roll, and one of as many lines
-/// as may be.
+/// Type, SCN and height of pictures: some of each, one past the third roll, and one of as many
+/// lines as may be.
 pub const PICTURES: [(u16, u32, usize); 12] = [
     (2, 1, 65_536),
     (1, 0, 65_536),

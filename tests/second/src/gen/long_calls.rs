@@ -41,8 +41,7 @@ pub fn fixed(seed: u64, family: Option<&str>, one_in: usize) -> impl Iterator<It
     groups.into_iter().flat_map(move |(_, make)| make(&mut rng))
 }
 
-/// The groups of long sheets. Each holds few of them at a time, and a family begins with those that
-/// are shown by the least work.
+/// The groups of long sheets, with their families. Each holds few sheets at a time.
 fn groups() -> Vec<(&'static str, Group)> {
     let mut all: Vec<(&'static str, Group)> = Vec::new();
     let mut add = |family, make: Makes<What>| {
@@ -176,8 +175,8 @@ fn said_long(nol: u32) -> Vec<u8> {
     sheet(&header, &words(&[0x5900, 3, 1, 0, 1, 0x5900]))
 }
 
-/// Sheets that are read and moved by those numbers: all but their first lines are lost. Those of the
-/// most lines, which take the longest, come last.
+/// Sheets that are read and moved by those numbers: all but their first lines are lost. Those of
+/// the most lines, which take the longest, come last.
 fn sheets_said_long(_: &mut Rng) -> Vec<What> {
     let mut all = Vec::new();
     let longest = [MOST_LINES - 1, MOST_LINES];

@@ -2,8 +2,8 @@
 
 use crate::gen::sheet::TYPES;
 
-/// What was reached past line 65,535 of a sheet with line headers: the marks from line 65,536 on, the
-/// first of which has this number, unless it is lost without one.
+/// What was reached past line 65,535 of a sheet with line headers: the marks from line 65,536 on.
+/// That line has this number, unless it is not reached or has none.
 pub fn reached(kind: u64, decides: Option<u64>, marks: &[u8]) -> Vec<String> {
     let mut all: Vec<String> = decides.iter().map(|&number| rolled(kind, number)).collect();
     all.extend((0..=10).filter(|mark| marks.contains(mark)).map(past));
