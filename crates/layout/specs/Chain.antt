@@ -62,7 +62,7 @@ headAt r k = headOf (from r (start r k))
 abbrev pub bodyAt : Raster → ℕ → List ℕ
 bodyAt r k = cond (reached r k) (bodyOf (from r (start r k))) []
 
--- the number in line 65,536, which decides where the line numbers roll over to (paper 02, P6)
+-- the number in line 65,536, which decides where the line numbers roll over to (paper 02, P6); no line before it goes by it
 unfoldable pub rolloverOf : Raster → ℕ
 rolloverOf r = storedNumber (headAt r firstPast)
 
