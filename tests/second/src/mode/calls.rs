@@ -602,7 +602,7 @@ fn check_move(
         0 => moved(word(file, 4), file[195]),
         number => format!("move refused {number}"),
     });
-    if file.len() > 192 && long(file, 188) > 65_535 && file[195] == 1 {
+    if file.len() > 195 && long(file, 188) > 65_535 && file[195] == 1 {
         reached.push(long_move(done.result));
     }
     let answered = done.result == 0 && answer >= MOVE_ANSWER;
