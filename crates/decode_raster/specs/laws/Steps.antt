@@ -66,62 +66,61 @@ module _ (r : Raster) (s : Storing (r .ppl)) (k : ℕ) (c : Chain) (h : ChainAt 
         row-is = e ∙ sym (ap (λ (y : Reading). s .image (y .row)) x);
       }
 
-  -- what the chain meets where it has come to
-  module _ (kept : c .lost ≡ false) {rollover : ℕ} (met : rollover ≡ rolloverMet (c .rollover) k (take (length (r .bytes) - c .at) (from r (c .at)))) where
+  -- where the chain has come to
+  module _ (kept : c .lost ≡ false) where
     u : reached r k ≡ true
     u = not-false (reached r k) (sym (h .lost) ∙ kept)
 
     rest : take (length (r .bytes) - c .at) (from r (c .at)) ≡ from r (start r k)
     rest = rest-is (r .bytes) (c .at) ∙ ap (from r) (h .at)
 
-    pub number-here : {number : ℕ} → number ≡ wantedNumber rollover k → number ≡ numberOf r k
-    number-here wanted = number-met r k (c .rollover) (h .rollover) u rest met wanted
+    -- what it meets there
+    module _ {rollover : ℕ} (met : rollover ≡ rolloverMet (c .rollover) k (take (length (r .bytes) - c .at) (from r (c .at)))) where
+      pub number-here : {number : ℕ} → number ≡ wantedNumber rollover k → number ≡ numberOf r k
+      number-here wanted = number-met r k (c .rollover) (h .rollover) u rest met wanted
 
-    pub known-after : RolloverKnown r (suc k) rollover
-    known-after = known-next r k (c .rollover) (h .rollover) u rest met
+      pub known-after : RolloverKnown r (suc k) rollover
+      known-after = known-next r k (c .rollover) (h .rollover) u rest met
 
-  -- by the number that scanline k must have
-  pub step-on : c .lost ≡ false → (l : Scanline) (row : List ℕ) (one : ℕ) {rollover number : ℕ}
-      → number ≡ numberOf r k → RolloverKnown r (suc k) rollover
-      → IsScan (stepOf (r .scn) (r .dataType) (r .ppl) (take (length (r .bytes) - c .at) (from r (c .at))))
-      (readingOf (r .scn) (r .dataType) (r .ppl) number (take (length (r .bytes) - c .at) (from r (c .at)))) l
-      → row ≡ s .image (readingOf (r .scn) (r .dataType) (r .ppl) number (take (length (r .bytes) - c .at) (from r (c .at))) .row)
-      → one ≡ oneIfGood (l .status)
-      → Stepped r s k (record { at = c .at + l .used .0; lost = l .lost; good = c .good + one; status = l .status; rollover = rollover }) row
-  step-on kept l row one {rollover} {number} n known line stored counted =
-      let u : reached r k ≡ true = not-false (reached r k) (sym (h .lost) ∙ kept) in
-      let x = reading-reached r k u in
-      let rest : take (length (r .bytes) - c .at) (from r (c .at)) ≡ from r (start r k) =
-      rest-is (r .bytes) (c .at) ∙ ap (from r) (h .at) in
-      let there : IsScan (stepAt r (start r k)) (readingOf (r .scn) (r .dataType) (r .ppl) (numberOf r k) (from r (start r k))) l =
-      subst (λ (m : ℕ). IsScan (stepAt r (start r k)) (readingOf (r .scn) (r .dataType) (r .ppl) m (from r (start r k))) l) n
-      (subst (λ (b : List ℕ). IsScan (stepOf (r .scn) (r .dataType) (r .ppl) b) (readingOf (r .scn) (r .dataType) (r .ppl) number b) l) rest line) in
-      let y : l .status ≡ readingAt r k .status = there .status ∙ sym (ap (λ (z : Reading). z .status) x) in
-      record {
-        chain =
-            subst⁻¹ (λ (i : ℕ). ChainAt r i (record { at = c .at + l .used .0; lost = l .lost; good = c .good + one; status = l .status; rollover = rollover })) (add-one k)
-            (record {
-              at = ap (λ (a : ℕ). a + l .used .0) (h .at) ∙ ap (λ (n : ℕ). start r k + n) (there .used) ∙ sym (start-suc r k);
-              lost =
-                  there .lost
-                  ∙ twice (stepAt r (start r k) .lost)
-                  ∙ sym (ap not (reached-suc r k ∙ ap (λ (b : Bool). b && not (stepAt r (start r k) .lost)) u));
-              good =
-                  ap (λ (g : ℕ). g + one) (h .good)
-                  ∙ ap (λ (m : ℕ). goodCount r k + m) (counted ∙ ap oneIfGood y)
-                  ∙ sym (good-suc r k);
-              rollover = known;
-            });
-        status = y;
-        row-is =
-            stored
-            ∙ (λ i. s .image (readingOf (r .scn) (r .dataType) (r .ppl) (n i) (rest i) .row))
-            ∙ sym (ap (λ (z : Reading). s .image (z .row)) x);
-      }
-    where
-      twice : (b : Bool) → b ≡ not (not b)
-      twice true = refl
-      twice false = refl
+    -- by the number that scanline k must have
+    pub step-on : (l : Scanline) (row : List ℕ) (one : ℕ) {rollover number : ℕ}
+        → number ≡ numberOf r k → RolloverKnown r (suc k) rollover
+        → IsScan (stepOf (r .scn) (r .dataType) (r .ppl) (take (length (r .bytes) - c .at) (from r (c .at))))
+        (readingOf (r .scn) (r .dataType) (r .ppl) number (take (length (r .bytes) - c .at) (from r (c .at)))) l
+        → row ≡ s .image (readingOf (r .scn) (r .dataType) (r .ppl) number (take (length (r .bytes) - c .at) (from r (c .at))) .row)
+        → one ≡ oneIfGood (l .status)
+        → Stepped r s k (record { at = c .at + l .used .0; lost = l .lost; good = c .good + one; status = l .status; rollover = rollover }) row
+    step-on l row one {rollover} {number} n known line stored counted =
+        let x = reading-reached r k u in
+        let there : IsScan (stepAt r (start r k)) (readingOf (r .scn) (r .dataType) (r .ppl) (numberOf r k) (from r (start r k))) l =
+        subst (λ (m : ℕ). IsScan (stepAt r (start r k)) (readingOf (r .scn) (r .dataType) (r .ppl) m (from r (start r k))) l) n
+        (subst (λ (b : List ℕ). IsScan (stepOf (r .scn) (r .dataType) (r .ppl) b) (readingOf (r .scn) (r .dataType) (r .ppl) number b) l) rest line) in
+        let y : l .status ≡ readingAt r k .status = there .status ∙ sym (ap (λ (z : Reading). z .status) x) in
+        record {
+          chain =
+              subst⁻¹ (λ (i : ℕ). ChainAt r i (record { at = c .at + l .used .0; lost = l .lost; good = c .good + one; status = l .status; rollover = rollover })) (add-one k)
+              (record {
+                at = ap (λ (a : ℕ). a + l .used .0) (h .at) ∙ ap (λ (n : ℕ). start r k + n) (there .used) ∙ sym (start-suc r k);
+                lost =
+                    there .lost
+                    ∙ twice (stepAt r (start r k) .lost)
+                    ∙ sym (ap not (reached-suc r k ∙ ap (λ (b : Bool). b && not (stepAt r (start r k) .lost)) u));
+                good =
+                    ap (λ (g : ℕ). g + one) (h .good)
+                    ∙ ap (λ (m : ℕ). goodCount r k + m) (counted ∙ ap oneIfGood y)
+                    ∙ sym (good-suc r k);
+                rollover = known;
+              });
+          status = y;
+          row-is =
+              stored
+              ∙ (λ i. s .image (readingOf (r .scn) (r .dataType) (r .ppl) (n i) (rest i) .row))
+              ∙ sym (ap (λ (z : Reading). s .image (z .row)) x);
+        }
+      where
+        twice : (b : Bool) → b ≡ not (not b)
+        twice true = refl
+        twice false = refl
 
 -- bytes that fill a row of bytes whole
 pub bytes-full : (row old : List ℕ) (p : ℕ) → length row ≡ p → length old ≡ wordBytes p → over (wordsToBytes row) old ≡ wordsToBytes row

@@ -70,10 +70,6 @@ pub written-next : (k : ℕ) → (writtenNumber k + 1) % 65536 ≡ writtenNumber
 unfolding writtenNumber
 written-next k = omega arith
 
-pub written-word : (k : ℕ) → writtenNumber k < 65536
-unfolding writtenNumber
-written-word k = omega arith
-
 -- the number in line 65,536 is met there
 pub met-there : (known : ℕ) (rest : List ℕ) → rolloverMet known firstPast rest ≡ storedNumber rest
 unfolding rolloverMet
