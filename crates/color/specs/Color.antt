@@ -1,6 +1,6 @@
--- "Colours": the color of a pixel value in a file, as the paper's numbers.
+-- "Colours": the color of a pixel value in a file, as the paper's numbers; and paper 02, P7, "Ink on paper".
 use Prim.Native.Nat.{ℕ, _+_, _-_, _*_}
-use mathlib.Core.Bool.{cond}
+use mathlib.Core.Bool.{Bool, cond, _&&_, _||_}
 use mathlib.Core.List.{List}
 use lib.Dec.{eqb, ltb}
 use Rattle.units.specs.LittleEndian.{byteAt, u16At}
@@ -50,9 +50,24 @@ tableColor f v =
     cond (eqb (fieldsOf f .ctv) 0) (grayColor v)
     (cond (eqb (fieldsOf f .ctv) 1) (igdsColor f v) (environColor f (fieldsOf f .cte) v))
 
--- the color of a value in a file
+-- "the greyscale plotter still gets the old answer, under its own name": by the table alone, whatever the data type
+abbrev pub plotterReading : List ℕ → ℕ → ColorNumbers
+plotterReading f v = cond (eqb (rejectionTo22 f) 0) (tableColor f v) (noColor (rejectionTo22 f))
+
+-- "types 1 and 9 with CTV 0"
+abbrev pub isInked : ℕ → ℕ → Bool
+isInked dtc ctv = eqb ctv 0 && (eqb dtc 1 || eqb dtc 9)
+
+-- "let 0 be 65535 three times and 1 be 0 three times": white paper and black ink
+abbrev pub inkColor : ℕ → ColorNumbers
+inkColor v = cond (eqb v 0) (color 65535 65535 65535) (cond (eqb v 1) (color 0 0 0) (noColor 25))
+
+abbrev pub shownColor : List ℕ → ℕ → ColorNumbers
+shownColor f v = cond (isInked (fieldsOf f .dtc) (fieldsOf f .ctv)) (inkColor v) (tableColor f v)
+
+-- the color of a value in a file, as it is shown
 abbrev pub colorReading : List ℕ → ℕ → ColorNumbers
-colorReading f v = cond (eqb (rejectionTo22 f) 0) (tableColor f v) (noColor (rejectionTo22 f))
+colorReading f v = cond (eqb (rejectionTo22 f) 0) (shownColor f v) (noColor (rejectionTo22 f))
 
 -- the paper's numbers of an answer
 abbrev pub colorNumbers : ColorAnswer → ColorNumbers

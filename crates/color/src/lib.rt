@@ -1,6 +1,10 @@
 // The color of a pixel value in a file, by the file's color table.
 ghost use mathlib.Core.Path.{_≡_};
-ghost use Rattle.color.specs.Color.{colorNumbers, colorReading, grayColor, igdsColor, environColor, entryColor};
+ghost use mathlib.Core.Bool.{cond};
+ghost use Rattle.fields.specs.Fields.{fieldsOf};
+ghost use Rattle.header.specs.Rejections.{rejectionTo22};
+ghost use Rattle.color.specs.Color.{colorNumbers, colorReading, plotterReading, isInked, inkColor, tableColor, grayColor, igdsColor, environColor, entryColor};
+use fields::Fields;
 use fields::fields_of;
 use header::entry_start;
 use header::rejection_to_22;
@@ -23,15 +27,75 @@ pub enum ColorAnswer {
 // A part c of one byte is 256c in 16 bits: the scale of colors, and no unit of the format.
 const SCALE: u16 = 256;
 
-// The color of a pixel value in a file.
+// The color of a pixel value in a file, as it is shown: a bi-level file without a table is ink on paper.
 pub fn color_of(file: &[u8], value: u32) -> ColorAnswer
     ensures { λ r. ⌜ colorNumbers r ≡ colorReading (now (file .entry)) value ⌝ }
+{
+    color_by(true, file, value)
+}
+
+// The color of a pixel value for the gray-scale plotter: without a table every file has shades of gray.
+pub fn plotter_color_of(file: &[u8], value: u32) -> ColorAnswer
+    ensures { λ r. ⌜ colorNumbers r ≡ plotterReading (now (file .entry)) value ⌝ }
+{
+    color_by(false, file, value)
+}
+
+// Both colors, so that their rejections are the same: `ink` says whether ink on paper is wanted.
+fn color_by(ink: bool, file: &[u8], value: u32) -> ColorAnswer
+    ensures { λ r. ⌜ colorNumbers r ≡ cond ink (colorReading (now (file .entry)) value) (plotterReading (now (file .entry)) value) ⌝ }
 {
     let number = rejection_to_22(file);
     if number != 0 {
         return ColorAnswer::Rejected(number);
     }
     let h = fields_of(file);
+    if ink && is_inked(h.dtc, h.ctv) {
+        return ink_color(value);
+    }
+    table_color(h, file, value)
+}
+
+// Whether a data type and a kind of color table are those of ink on paper: bi-level, and no table.
+fn is_inked(dtc: u16, ctv: u16) -> bool
+    ensures { λ r. ⌜ r ≡ isInked dtc ctv ⌝ }
+{
+    if ctv != 0 {
+        return false;
+    }
+    if dtc == 1 {
+        return true;
+    }
+    dtc == 9
+}
+
+// White paper and black ink.
+fn ink_color(value: u32) -> ColorAnswer
+    ensures { λ r. ⌜ colorNumbers r ≡ inkColor value ⌝ }
+{
+    if value == 0 {
+        return ColorAnswer::Found(Rgb {
+            red: 65535,
+            green: 65535,
+            blue: 65535,
+        });
+    }
+    if value == 1 {
+        return ColorAnswer::Found(Rgb {
+            red: 0,
+            green: 0,
+            blue: 0,
+        });
+    }
+    ColorAnswer::Rejected(25)
+}
+
+// The color by the table of a file that is not rejected and has these fields.
+fn table_color(h: Fields, file: &[u8], value: u32) -> ColorAnswer
+    requires { ⌜ rejectionTo22 (now file) ≡ 0 ⌝ }
+    requires { ⌜ h ≡ fieldsOf (now file) ⌝ }
+    ensures { λ r. ⌜ colorNumbers r ≡ tableColor (now (file .entry)) value ⌝ }
+{
     if h.ctv == 0 {
         return gray_color(value);
     }
