@@ -1,9 +1,9 @@
--- Paper 02, P2: the calls of the C library, each as its result and its numbers, and how many bytes these take. They are those of the
+-- Paper 02, P2 and the requests that add a call: the calls of the C library, each as its result and its numbers, and how many bytes these take. They are those of the
 -- calls of the library itself.
 use Prim.Native.Nat.{ℕ}
 use mathlib.Core.List.{List, [], _∷_}
 use Rattle.header.specs.Reading.{HeaderNumbers, headerReading}
-use Rattle.color.specs.Color.{ColorNumbers, colorReading}
+use Rattle.color.specs.Color.{ColorNumbers, colorReading, plotterReading}
 use Rattle.layout.specs.Reading.{RasterNumbers}
 use Rattle.layout.specs.PixelBytes.{bytesReading}
 use Rattle.encode_header.specs.Picture.{Picture}
@@ -54,6 +54,9 @@ cRaster f pixels marks = rasterCall (bytesReading f pixels marks)
 
 abbrev pub cColor : List ℕ → ℕ → Call
 cColor f v = colorCall (colorReading f v)
+
+abbrev pub cPlotterColor : List ℕ → ℕ → Call
+cPlotterColor f v = colorCall (plotterReading f v)
 
 abbrev pub cWrite : Picture → ℕ → Call
 cWrite i room = writeCall (writing i room)

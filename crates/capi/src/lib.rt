@@ -19,12 +19,14 @@ ghost use Rattle.encode_raster.specs.Writing.{outAfter};
 ghost use Rattle.encode_raster.specs.Answer.{picture};
 ghost use Rattle.transcode.specs.Transcoding.{outTranscoded};
 ghost use Rattle.answers.specs.Answer.{numberBytes, resultOf, answerAfter, unlessShort};
-ghost use Rattle.capi.specs.Calls.{headerSize, headerCall, cHeader, rasterSize, cRaster, colorSize, colorCall, cColor, writeSize, writeCall, cWrite, cMove};
+ghost use Rattle.capi.specs.Calls.{headerSize, headerCall, cHeader, rasterSize, cRaster, colorSize, colorCall, cColor, cPlotterColor, writeSize, writeCall, cWrite, cMove};
+ghost use Rattle.capi.specs.laws.Rejections.{From10};
 ghost use Rattle.capi.specs.laws.Writing.{Told};
 use answers::store_numbers;
 use color::ColorAnswer;
 use color::Rgb;
 use color::color_of;
+use color::plotter_color_of;
 use decode_raster_bytes::read_raster_bytes;
 use encode_answer::WriteAnswer;
 use encode_raster::write_raster;
@@ -107,7 +109,7 @@ fn resolution_size(r: Resolution) -> u32
     }
 }
 
-// The color of a pixel value in a file.
+// The color of a pixel value in a file, as it is shown.
 #[no_mangle]
 pub extern "C" fn ingr_color(file: &[u8], value: u32, answer: &mut [u8]) -> u32
     ensures { λ r. ⌜ r ≡ resultOf colorSize (cColor (now (file .entry)) value) (now (answer .entry)) ⌝ }
@@ -117,6 +119,29 @@ pub extern "C" fn ingr_color(file: &[u8], value: u32, answer: &mut [u8]) -> u32
         return TOO_SHORT;
     }
     let found = color_of(file, value);
+    store_found(found, answer)
+}
+
+// The color of a pixel value for the gray-scale plotter.
+#[no_mangle]
+pub extern "C" fn ingr_plotter_color(file: &[u8], value: u32, answer: &mut [u8]) -> u32
+    ensures { λ r. ⌜ r ≡ resultOf colorSize (cPlotterColor (now (file .entry)) value) (now (answer .entry)) ⌝ }
+    ensures { λ r. ⌜ now (answer .exit) ≡ answerAfter colorSize (cPlotterColor (now (file .entry)) value) (now (answer .entry)) ⌝ }
+{
+    if answer.len() < COLOR_SIZE {
+        return TOO_SHORT;
+    }
+    let found = plotter_color_of(file, value);
+    store_found(found, answer)
+}
+
+// The result of a call for a color. Where there is one its parts are stored.
+fn store_found(found: ColorAnswer, answer: &mut [u8]) -> u32
+    requires { ⌜ colorSize ≤ length (now answer) ⌝ }
+    requires { ⌜ From10 (colorNumbers found .number) ⌝ }
+    ensures { λ r. ⌜ r ≡ resultOf colorSize (colorCall (colorNumbers found)) (now (answer .entry)) ⌝ }
+    ensures { λ _. ⌜ now (answer .exit) ≡ answerAfter colorSize (colorCall (colorNumbers found)) (now (answer .entry)) ⌝ }
+{
     let number = color_number(found);
     if number != 0 {
         return number;

@@ -12,9 +12,9 @@ use Rattle.fields.specs.Fields.{fieldsOf, headerBlocks}
 use Rattle.header.specs.Rejections.{rulesTo22, rejectionTo22, slotAt}
 use Rattle.header.specs.Reading.{HeaderNumbers, rejectedNumbers, fieldNumbers, headerReading}
 use Rattle.header.specs.laws.Accepted.{accepted}
-use Rattle.color.specs.Color.{ColorNumbers, noColor, entryColor, colorReading}
+use Rattle.color.specs.Color.{ColorNumbers, noColor, entryColor, tableColor, isInked, colorReading, plotterReading}
 
-abbrev From10 : ℕ → Type 0
+abbrev pub From10 : ℕ → Type 0
 From10 n = (n ≡ 0 → ⊥) → 10 ≤ n
 
 file-from : (f : List ℕ) → From10 (rejectionTo22 f)
@@ -43,10 +43,18 @@ none some = omega arith
 found : {P : Type 0} → (_≡_ {A = ℕ} 0 0 → ⊥) → P
 found some = absurd (some refl)
 
-pub color-from : (f : List ℕ) (v : ℕ) → (colorReading f v .number ≡ 0 → ⊥) → 10 ≤ colorReading f v .number
+table-from : (f : List ℕ) (v : ℕ) → Numbered (tableColor f v)
+table-from f v =
+    either Numbered (eqb (fieldsOf f .ctv) 0) (either Numbered (ltb 255 v) none found)
+    (either Numbered (eqb (fieldsOf f .ctv) 1) (either Numbered (ltb 255 v) none found)
+    (scan-all Numbered (λ i. eqb (slotAt f i) v) (entryColor f) (noColor 25) (λ j. found) none 0 _))
+
+pub plotter-from : (f : List ℕ) (v : ℕ) → Numbered (plotterReading f v)
+plotter-from f v = either Numbered (eqb (rejectionTo22 f) 0) (table-from f v) (file-from f)
+
+pub color-from : (f : List ℕ) (v : ℕ) → Numbered (colorReading f v)
 color-from f v =
     either Numbered (eqb (rejectionTo22 f) 0)
-    (either Numbered (eqb (fieldsOf f .ctv) 0) (either Numbered (ltb 255 v) none found)
-    (either Numbered (eqb (fieldsOf f .ctv) 1) (either Numbered (ltb 255 v) none found)
-    (scan-all Numbered (λ i. eqb (slotAt f i) v) (entryColor f) (noColor 25) (λ j. found) none 0 _)))
+    (either Numbered (isInked (fieldsOf f .dtc) (fieldsOf f .ctv))
+    (either Numbered (eqb v 0) found (either Numbered (eqb v 1) found none)) (table-from f v))
     (file-from f)
