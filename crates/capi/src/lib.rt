@@ -122,7 +122,7 @@ pub extern "C" fn ingr_color(file: &[u8], value: u32, answer: &mut [u8]) -> u32
     store_found(found, answer)
 }
 
-// The color of a pixel value for the gray-scale plotter.
+// The color of a pixel value for the grayscale plotter.
 #[no_mangle]
 pub extern "C" fn ingr_plotter_color(file: &[u8], value: u32, answer: &mut [u8]) -> u32
     ensures { λ r. ⌜ r ≡ resultOf colorSize (cPlotterColor (now (file .entry)) value) (now (answer .entry)) ⌝ }

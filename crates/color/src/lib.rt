@@ -34,7 +34,7 @@ pub fn color_of(file: &[u8], value: u32) -> ColorAnswer
     color_by(true, file, value)
 }
 
-// The color of a pixel value for the gray-scale plotter: without a table every file has shades of gray.
+// The color of a pixel value for the grayscale plotter: without a table every file has shades of gray.
 pub fn plotter_color_of(file: &[u8], value: u32) -> ColorAnswer
     ensures { λ r. ⌜ colorNumbers r ≡ plotterReading (now (file .entry)) value ⌝ }
 {

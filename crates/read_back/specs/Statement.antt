@@ -8,7 +8,7 @@ use lib.Dec.{eqb, ltb}
 use Rattle.units.specs.Over.{zeros}
 use Rattle.header.specs.Resolution.{resolutionOf}
 use Rattle.header.specs.Reading.{HeaderNumbers, headerReading}
-use Rattle.color.specs.Color.{ColorNumbers, scaled, color, noColor, grayColor, colorReading}
+use Rattle.color.specs.Color.{ColorNumbers, scaled, color, noColor, grayColor, isInked, inkColor, colorReading, plotterReading}
 use Rattle.layout.specs.Reading.{rasterReading, pixelsAfter, marksAfter}
 use Rattle.encode_header.specs.Picture.{Picture, picturePixels}
 use Rattle.encode_header.specs.Header.{ctvOf, blocksOf}
@@ -31,17 +31,22 @@ givenHeader i =
       cte = 0;
     }
 
--- the colors are those of the table, or grays without one
-abbrev pub givenColor : Picture → ℕ → ColorNumbers
-givenColor i v =
+-- the plotter's colors are those of the table, or grays without one
+abbrev pub givenPlotterColor : Picture → ℕ → ColorNumbers
+givenPlotterColor i v =
     cond (eqb (length (i .table)) 0) (grayColor v)
     (cond (ltb 255 v) (noColor 25)
     (color (scaled (getD (i .table) (3 * v) 0)) (scaled (getD (i .table) (3 * v + 1) 0)) (scaled (getD (i .table) (3 * v + 2) 0))))
+
+-- the colors that are shown are the same, but for types 1 and 9 without a table: ink on paper
+abbrev pub givenColor : Picture → ℕ → ColorNumbers
+givenColor i v = cond (isInked (i .dtc) (ctvOf (i .table))) (inkColor v) (givenPlotterColor i v)
 
 -- the written file read into buffers that held pixels and marks, with room for it
 pub record ReadsBack (i : Picture) (pixels marks : List ℕ) : Type 0 where
   pub header : headerReading (fileBytes i) ≡ givenHeader i
   pub colors : (v : ℕ) → colorReading (fileBytes i) v ≡ givenColor i v
+  pub plotter-colors : (v : ℕ) → plotterReading (fileBytes i) v ≡ givenPlotterColor i v
   -- not rejected, every scanline good, and the end is the written length
   pub answer : rasterReading (fileBytes i) pixels marks ≡ record { answer = 0; good = i .nol; end = length (fileBytes i) }
   pub marks-are : marksAfter (fileBytes i) pixels marks ≡ zeros (i .nol) ++ drop (i .nol) marks

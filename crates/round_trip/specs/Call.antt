@@ -5,13 +5,13 @@ use mathlib.Core.List.{List, _++_}
 use Rattle.units.specs.Over.{zeros}
 use lib.ListN.{length, take, drop}
 use Rattle.header.specs.Reading.{headerReading}
-use Rattle.color.specs.Color.{colorReading}
+use Rattle.color.specs.Color.{colorReading, plotterReading}
 use Rattle.layout.specs.Reading.{RasterNumbers, rejectedRaster, rasterReading, pixelsAfter, marksAfter}
 use Rattle.decode_raster.specs.Answer.{rasterNumbers}
 use Rattle.encode_header.specs.Picture.{Picture, picturePixels}
 use Rattle.encode_raster.specs.Writing.{writing, outAfter}
 use Rattle.encode_answer.specs.Answer.{writeNumbers}
-use Rattle.read_back.specs.Statement.{givenHeader, givenColor}
+use Rattle.read_back.specs.Statement.{givenHeader, givenColor, givenPlotterColor}
 use Rattle.round_trip.specs.declared.RoundTrip.{RoundTrip}
 
 -- the written file: as many bytes of the output as the writer says
@@ -29,8 +29,8 @@ pub record BothCalls (i : Picture) (out back marks : List ℕ) (r : RoundTrip) (
 abbrev pub given : Picture → ℕ → RasterNumbers
 given i n = record { answer = 0; good = i .nol; end = n }
 
--- Nothing is rejected, every mark is 0, the end is the written length, the header's fields are those given and the colors
--- those of the table, and the buffer holds the pixels given and then what was there.
+-- Nothing is rejected, every mark is 0, the end is the written length, the header's fields are those given, the colors are those of the
+-- table or of a file of this type without one, and the buffer holds the pixels given and then what was there.
 pub record GivenBack (i : Picture) (back marks : List ℕ) (r : RoundTrip) (out′ back′ marks′ : List ℕ) : Type 0 where
   pub wrote : r .written .number ≡ 0
   pub answer : rasterNumbers (r .read) ≡ given i (r .written .size .0)
@@ -38,3 +38,4 @@ pub record GivenBack (i : Picture) (back marks : List ℕ) (r : RoundTrip) (out�
   pub pixels-are : back′ ≡ picturePixels i ++ drop (i .nol * i .ppl) back
   pub header : headerReading (written r out′) ≡ givenHeader i
   pub colors : (v : ℕ) → colorReading (written r out′) v ≡ givenColor i v
+  pub plotter-colors : (v : ℕ) → plotterReading (written r out′) v ≡ givenPlotterColor i v

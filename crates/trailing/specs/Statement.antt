@@ -5,7 +5,7 @@ use mathlib.Core.Bool.{true}
 use mathlib.Core.List.{List, _++_}
 use lib.ListN.{length, getD}
 use Rattle.header.specs.Reading.{headerReading}
-use Rattle.color.specs.Color.{colorReading}
+use Rattle.color.specs.Color.{colorReading, plotterReading}
 use Rattle.layout.specs.Chain.{sheetOf, reached, endOf}
 use Rattle.layout.specs.Reading.{rasterRejection, rasterReading, pixelsAfter, marksAfter}
 
@@ -23,13 +23,14 @@ NoneLost f = reached (sheetOf f) (sheetOf f .nol) ≡ true
 pub record ReadAlike (f g pixels marks : List ℕ) : Type 0 where
   pub header : headerReading g ≡ headerReading f
   pub colors : (v : ℕ) → colorReading g v ≡ colorReading f v
+  pub plotter-colors : (v : ℕ) → plotterReading g v ≡ plotterReading f v
   pub accepted : rasterRejection g (length pixels) (length marks) ≡ 0
   pub answer : rasterReading g pixels marks ≡ rasterReading f pixels marks
   pub pixels-are : pixelsAfter g pixels marks ≡ pixelsAfter f pixels marks
   pub marks-are : marksAfter g pixels marks ≡ marksAfter f pixels marks
 
--- The claim, of the definitions that the promises of `read_raster`, `read_header` and `color_of` cite. A file of more than
--- 2,147,483,647 bytes is rejected. `trailing-ignored` proves it.
+-- The claim, of the definitions that the promises of `read_raster`, `read_header`, `color_of` and `plotter_color_of` cite. A file of
+-- more than 2,147,483,647 bytes is rejected. `trailing-ignored` proves it.
 abbrev pub TrailingIgnored : Type 0
 TrailingIgnored =
     (f g pixels marks : List ℕ)

@@ -1,4 +1,4 @@
--- The colors of a written file are those of the table, or grays without one.
+-- The colors of a written file are those of the table, or without one grays, and ink on paper in types 1 and 9.
 use Prim.Native.Nat.{ℕ, _+_, _*_, _≤_, _<_}
 use mathlib.Core.Path.{_≡_, refl, sym, _∙_, ap}
 use mathlib.Core.Bool.{Bool, true, false, cond}
@@ -11,11 +11,11 @@ use borrow.Author.Tests.{eqb-true, ltb-false}
 use Rattle.units.specs.LittleEndian.{byteAt}
 use Rattle.fields.specs.declared.Fields.{Fields}
 use Rattle.fields.specs.Fields.{fieldsOf}
-use Rattle.color.specs.Color.{scaled, color, noColor, grayColor, igdsColor, environColor, colorReading}
+use Rattle.color.specs.Color.{scaled, color, noColor, grayColor, igdsColor, environColor, tableColor, isInked, inkColor, colorReading, plotterReading}
 use Rattle.encode_header.specs.Picture.{Picture}
 use Rattle.encode_header.specs.Header.{tableArea}
 use Rattle.encode_raster.specs.File.{linesOf, fileBytes}
-use Rattle.read_back.specs.Statement.{givenColor}
+use Rattle.read_back.specs.Statement.{givenPlotterColor, givenColor}
 use Rattle.read_back.specs.laws.Given.{Given}
 use Rattle.read_back.specs.laws.Head.{front, file-is, length-front, ctvIf, fields-are}
 use Rattle.read_back.specs.laws.Accepted.{not-rejected}
@@ -68,8 +68,16 @@ table-bytes i g e n h =
     let a : tableArea (i .table) ≡ i .table = rw e in
     area-byte i n (omega (arith, ap length a)) ∙ ap (λ (x : List ℕ). getD x n 0) a
 
-pub colors-are : (i : Picture) → i .drs < 65536 → Given i → (v : ℕ) → colorReading (fileBytes i) v ≡ givenColor i v
-colors-are i b g v =
-    rw (not-rejected i b g)
-    (color-if (fileBytes i) (i .table) (fieldsOf (fileBytes i) .ctv) v (eqb (length (i .table)) 0)
-    (ap (λ (h : Fields). h .ctv) (fields-are i b g)) (table-bytes i g))
+module _ (i : Picture) (b : i .drs < 65536) (g : Given i) (v : ℕ) where
+  table-is : tableColor (fileBytes i) v ≡ givenPlotterColor i v
+  table-is =
+      color-if (fileBytes i) (i .table) (fieldsOf (fileBytes i) .ctv) v (eqb (length (i .table)) 0)
+      (ap (λ (h : Fields). h .ctv) (fields-are i b g)) (table-bytes i g)
+
+  pub plotter-colors-are : plotterReading (fileBytes i) v ≡ givenPlotterColor i v
+  plotter-colors-are = rw (not-rejected i b g) table-is
+
+  pub colors-are : colorReading (fileBytes i) v ≡ givenColor i v
+  colors-are =
+      rw (not-rejected i b g)
+      (λ j. cond (isInked (fields-are i b g j .dtc) (fields-are i b g j .ctv)) (inkColor v) (table-is j))

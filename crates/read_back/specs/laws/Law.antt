@@ -17,7 +17,7 @@ use Rattle.read_back.specs.laws.Given.{Given, given}
 use Rattle.read_back.specs.laws.Head.{fields-are}
 use Rattle.read_back.specs.laws.Chain.{lineOfPicture, lined, numbered, rows-are}
 use Rattle.read_back.specs.laws.Accepted.{headed, written, raster-not-rejected, header-is}
-use Rattle.read_back.specs.laws.Colors.{colors-are}
+use Rattle.read_back.specs.laws.Colors.{colors-are, plotter-colors-are}
 
 -- the reading of a raster whose scanlines are all good
 good-numbers : (r : Raster) (n : ℕ) → r .nol ≡ n → goodCount r n ≡ n → start r n ≡ length (r .bytes)
@@ -46,6 +46,7 @@ reads i pixels marks b g l m =
     record {
       header = header-is i b g;
       colors = colors-are i b g;
+      plotter-colors = plotter-colors-are i b g;
       answer = rw q (good-numbers r (i .nol) e (good-are r (i .nol) writtenNumber line lines row all numbers (i .nol) n) (end-is r (i .nol) writtenNumber line lines row all));
       marks-are =
           rw q

@@ -4,7 +4,7 @@ use mathlib.Core.Path.{_≡_, sym, _∙_, ap}
 use mathlib.Core.List.{List}
 use lib.ListN.{length}
 use Rattle.header.specs.Reading.{headerReading}
-use Rattle.color.specs.Color.{colorReading}
+use Rattle.color.specs.Color.{colorReading, plotterReading}
 use Rattle.layout.specs.Reading.{rasterReading, pixelsAfter, marksAfter}
 use Rattle.encode_header.specs.Picture.{Picture}
 use Rattle.encode_raster.specs.File.{fileBytes}
@@ -37,4 +37,5 @@ given-back i out back marks r out′ back′ marks′ drs c ok px mk =
       pixels-are = d .1 .0 ∙ ap (λ (x : List ℕ). pixelsAfter x back marks) f ∙ b .pixels-are;
       header = ap headerReading f ∙ b .header;
       colors = λ v. ap (λ (x : List ℕ). colorReading x v) f ∙ b .colors v;
+      plotter-colors = λ v. ap (λ (x : List ℕ). plotterReading x v) f ∙ b .plotter-colors v;
     }

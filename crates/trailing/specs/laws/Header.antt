@@ -18,7 +18,7 @@ use Rattle.fields.specs.Fields.{fieldsOf, headerBlocks}
 use Rattle.header.specs.Rejections.{entryStart, slotAt, frameRules, fieldRules, colorTableRules, rejectionTo22}
 use Rattle.header.specs.Reading.{fieldNumbers, headerReading}
 use Rattle.header.specs.laws.Accepted.{Accepted, accepted}
-use Rattle.color.specs.Color.{scaled, color, noColor, grayColor, igdsColor, entryColor, environColor, tableColor, colorReading}
+use Rattle.color.specs.Color.{scaled, color, noColor, grayColor, igdsColor, entryColor, environColor, tableColor, isInked, inkColor, colorReading, plotterReading}
 use Rattle.layout.specs.Chain.{sheetOf}
 use Rattle.isolation.specs.laws.Same.{same-u16, same-scan}
 use Rattle.isolation.specs.laws.Headers.{same-fields, same-slot, rules-but-length}
@@ -102,5 +102,9 @@ module _ (f g : List ℕ) (ok : rejectionTo22 f ≡ 0) (same : (i : ℕ) → i <
           let two : fieldsOf f .ctv ≡ 2 = omega (arith, a .ctv) in
           same-environ two v
 
+  pub same-plotter : rejectionTo22 g ≡ 0 → (v : ℕ) → plotterReading g v ≡ plotterReading f v
+  same-plotter ok₂ v = rw (ok₂, ok) (same-table v)
+
   pub same-color : rejectionTo22 g ≡ 0 → (v : ℕ) → colorReading g v ≡ colorReading f v
-  same-color ok₂ v = rw (ok₂, ok) (same-table v)
+  same-color ok₂ v =
+      rw (ok₂, ok) (λ j. cond (isInked (same-header j .dtc) (same-header j .ctv)) (inkColor v) (same-table v j))

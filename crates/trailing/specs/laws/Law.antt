@@ -23,7 +23,7 @@ use Rattle.isolation.specs.laws.TwoFiles.{sheet-by-fields}
 use Rattle.isolation.specs.laws.Law.{accepted-file}
 use Rattle.trailing.specs.Statement.{SameUpTo, NoneLost, TrailingIgnored, AppendedIgnored, GoodNoneLost}
 use Rattle.trailing.specs.laws.Front.{front-by-byte}
-use Rattle.trailing.specs.laws.Header.{same-header, also-accepted, same-reading, same-color}
+use Rattle.trailing.specs.laws.Header.{same-header, also-accepted, same-reading, same-color, same-plotter}
 use Rattle.trailing.specs.laws.Chain.{SameLines, same-lines}
 
 -- a file that is not rejected ends within itself
@@ -63,6 +63,7 @@ trailing-ignored f g pixels marks ok none front short =
     record {
       header = same-reading f g file-ok same also-ok;
       colors = same-color f g file-ok same also-ok;
+      plotter-colors = same-plotter f g file-ok same also-ok;
       accepted = also-read;
       answer =
           answer-is g pixels marks also-read
