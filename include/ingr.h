@@ -4,7 +4,7 @@
  * For viewers of scanned plans. Data types 1 (packed bi-level), 2 (bytes), 3 (16-bit words), 9
  * (run-length bi-level) and 10 (run-length color) are read and written, with scanline headers and
  * without; a file of type 1 is moved to type 9, and one of type 9 to type 1; IGDS and Environ-V
- * color tables are read, IGDS tables are written.
+ * color tables are read, IGDS tables are written. A bi-level file without a table is ink on paper.
  *
  * A damaged scanline never shows what a buffer held before, and never touches its neighbors: its
  * pixels are all zero and it has a mark that says why. Show marks to whoever relies on the image.
@@ -83,7 +83,8 @@ extern "C" {
 #define INGR_PIXELS_TOO_SHORT 23
 /* There are fewer marks than NOL. */
 #define INGR_MARKS_TOO_SHORT 24
-/* The value has no color. */
+/* The value has no color: no entry of an Environ-V table has that slot; with an IGDS table or none, it
+ * is above 255. ingr_color, in types 1 and 9 without a table: it is above 1. */
 #define INGR_NO_COLOR 25
 /* A pixel is above the highest of the data type: 1 in types 1 and 9, 255 in type 2. */
 #define INGR_PIXEL_TOO_HIGH 26
@@ -142,7 +143,7 @@ extern "C" {
 /* ingr_move uses no more than these: 65,535 pixels of two bytes, and as much as the others. */
 #define INGR_MOVE_STACK (INGR_STACK + 131072)
 
-/* The bytes of the answers. */
+/* The bytes of the answers; ingr_color and ingr_plotter_color have the same. */
 #define INGR_HEADER_ANSWER 40
 #define INGR_RASTER_ANSWER 8
 #define INGR_COLOR_ANSWER 12
@@ -244,19 +245,40 @@ uint32_t ingr_raster(const uint8_t *file, size_t file_size,
                      uint8_t *answer, size_t answer_size);
 
 /*
- * ingr_color - the color of a pixel value, by the color table of a file.
+ * ingr_color - the color of a pixel value, by the color table of a file; without one, ink on paper
+ * or a shade of gray.
  *
  * Given the whole file, of which only the header is looked at, and a value.
  *
- * 0: the first 12 bytes of answer are red, green and blue, each from 0 to 65,535. Without a table
- * a value v up to 255 gives 256v three times; a part c of an IGDS table gives 256c; parts of an
- * Environ-V table are given as stored.
+ * 0: the first 12 bytes of answer are red, green and blue, each from 0 to 65,535. A part c of an
+ * IGDS table gives 256c; parts of an Environ-V table are given as stored. Without a table, in types
+ * 1 and 9, the value 0 (OFF) is paper, 65,535 three times, and 1 (ON) is ink, 0 three times; in the
+ * other types a value v up to 255 gives 256v three times.
+ *
+ * The zeros of a refused scanline have the color of every zero. Where that is paper, it looks like a
+ * blank scanline, and its mark alone tells them apart.
+ *
+ * Rejections: 29, then 10 to 22, then 25: no entry of an Environ-V table has that slot; with an
+ * IGDS table or none, the value is above 255; without a table in types 1 and 9, it is above 1.
+ */
+uint32_t ingr_color(const uint8_t *file, size_t file_size, uint32_t value,
+                    uint8_t *answer, size_t answer_size);
+
+/*
+ * ingr_plotter_color - the color of a pixel value for the grayscale plotter, which knows no ink.
+ *
+ * Given and answered as in ingr_color, but that types 1 and 9 are as the others: without a table a
+ * value v up to 255 gives 256v three times, so that 0 is black and 1 nearly so. Only there, in a
+ * file of type 1 or 9 without a table and up to 255, do the two differ.
+ *
+ * A viewer, and whatever else shows a file to people, asks ingr_color. This one is for the plotter
+ * alone, which relies on the numbers that ingr_color gave before it told ink from paper.
  *
  * Rejections: 29, then 10 to 22, then 25: no entry of an Environ-V table has that slot; with an
  * IGDS table or none, the value is above 255.
  */
-uint32_t ingr_color(const uint8_t *file, size_t file_size, uint32_t value,
-                    uint8_t *answer, size_t answer_size);
+uint32_t ingr_plotter_color(const uint8_t *file, size_t file_size, uint32_t value,
+                            uint8_t *answer, size_t answer_size);
 
 /*
  * ingr_turn - turns the pixels of a raster into an upright picture.
