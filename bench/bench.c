@@ -18,8 +18,10 @@
 #include "sheets.h"
 #include "sides.h"
 
-const struct side OURS = {ingr_header, ingr_raster, ingr_color, ingr_turn, ingr_turn_back, ingr_write, ingr_move};
-const struct side PLAIN = {plain_header, plain_raster, plain_color, plain_turn, plain_turn_back, plain_write, plain_move};
+const struct side OURS = {ingr_header, ingr_raster, ingr_color, ingr_plotter_color, ingr_turn, ingr_turn_back,
+                          ingr_write, ingr_move};
+const struct side PLAIN = {plain_header, plain_raster, plain_color, plain_plotter_color, plain_turn, plain_turn_back,
+                           plain_write, plain_move};
 
 /* Reading into 16-bit pixels, where a library has it: then reading into bytes is timed against it. */
 uint32_t ingr_raster16(const uint8_t *file, size_t file_size, uint16_t *pixels, size_t pixel_count,
@@ -141,6 +143,12 @@ static void color(const struct side *side, struct left *to)
 {
     for (uint32_t i = 0; i < CALLS; i++)
         to->result = side->color(given.file, given.file_size, i % 256, to->answer, sizeof to->answer);
+}
+
+static void ink_color(const struct side *side, struct left *to)
+{
+    for (uint32_t i = 0; i < CALLS; i++)
+        to->result = side->color(given.file, given.file_size, i % 2, to->answer, sizeof to->answer);
 }
 
 /* The limits. */
@@ -467,7 +475,7 @@ static void turning(uint32_t slo, int back)
 
 static void small_calls(void)
 {
-    const struct job heads = {header, NULL, NULL}, colors = {color, NULL, NULL};
+    const struct job heads = {header, NULL, NULL}, colors = {color, NULL, NULL}, inks = {ink_color, NULL, NULL};
     sides_of(2, 1, 1, 0);
     lend(picture_bytes());
     environ_v(given.file);
@@ -477,6 +485,11 @@ static void small_calls(void)
     /* Of the values some have no color; the last has one. */
     if (wanted("color, Environ-V table of 256"))
         row(&colors, "color, Environ-V table of 256", 0);
+    sides_of(9, 1, 1, 0);
+    paint(given.picture, 9, 1, 1, NOISE);
+    make_file(NONE);
+    if (wanted("color, ink on paper"))
+        row(&inks, "color, ink on paper", 0);
 }
 
 static const uint32_t HEIGHTS[] = {FEW, MANY};

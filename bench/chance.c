@@ -55,6 +55,17 @@ static struct {
              {131072, 0, 0, 0},     {131072, 2, 0, 0},     {131072, 0, 4, 0},     {131072, 1, 4, 0}};
 enum { ROLLS = sizeof rolls / sizeof *rolls };
 
+/* Color calls of accepted files, by data type, by CTV and by whether the value has a color: how often each
+ * was met. Of ink on paper some values too: the two color calls differ up to 255. */
+enum { KINDS = 5, TABLES = 3 };
+static const uint32_t DATA_TYPES[KINDS] = {1, 2, 3, 9, 10};
+static unsigned long colors[KINDS][TABLES][2];
+static struct {
+    uint32_t value;
+    unsigned long met;
+} inks[] = {{0, 0}, {1, 0}, {2, 0}, {255, 0}, {256, 0}, {65535, 0}, {65536, 0}, {65537, 0}};
+enum { INKS = sizeof inks / sizeof *inks };
+
 static void clear_side(struct left *side)
 {
     memset(side, OLD, offsetof(struct left, marks) + marks_reach);
@@ -278,14 +289,42 @@ static void read_both(size_t pixels, size_t lines)
     compare("header");
 }
 
+/* Makes a file of one pixel, of that type, with a table of either kind or none; now and then a byte of the
+ * table is another. An IGDS table is what the first Environ-V entries are. */
+static void make_colored(uint32_t type)
+{
+    environ_v(file);
+    file_size = ENVIRON_V_BYTES;
+    put_word(file + 4, type);
+    put_word(file + 532, chance(TABLES));
+    if (chance(3) == 0)
+        file[768 + chance(2048)] = (uint8_t)chance(256);
+}
+
+/* Counts a color call that found a color or none. */
+static void count_color(uint32_t value)
+{
+    const uint32_t type = word(file + 4), ctv = word(file + 532);
+    for (int i = 0; i < KINDS; i++)
+        colors[i][ctv][theirs.result == 0] += DATA_TYPES[i] == type;
+    for (size_t i = 0; i < INKS && ctv == 0 && (type == 1 || type == 9); i++)
+        inks[i].met += inks[i].value == value;
+}
+
 static void color_both(void)
 {
-    const uint32_t value = near_by(chance(chance(2) ? 300 : 1024));
+    const uint32_t some = chance(chance(2) ? 300 : 1024), value = near_by(chance(2) ? inks[chance(INKS)].value : some);
     const size_t answer_size = length(12, sizeof mine.answer);
     clear();
     mine.result = OURS.color(file, file_size, value, mine.answer, answer_size);
     theirs.result = PLAIN.color(file, file_size, value, theirs.answer, answer_size);
     compare("color");
+    if (theirs.result == 0 || theirs.result == 25)
+        count_color(value);
+    clear();
+    mine.result = OURS.plotter_color(file, file_size, value, mine.answer, answer_size);
+    theirs.result = PLAIN.plotter_color(file, file_size, value, theirs.answer, answer_size);
+    compare("the plotter's color");
 }
 
 static void turn_both(uint32_t ppl, uint32_t nol)
@@ -379,6 +418,22 @@ static void count_missing_tall(void)
         }
 }
 
+static void count_missing_colors(void)
+{
+    for (int i = 0; i < KINDS; i++)
+        for (int ctv = 0; ctv < TABLES; ctv++)
+            for (int has = 0; has <= 1; has++)
+                if (colors[i][ctv][has] == 0) {
+                    printf("bench: no value of type %u and CTV %d had %s color\n", DATA_TYPES[i], ctv, has ? "a" : "no");
+                    unequal++;
+                }
+    for (size_t i = 0; i < INKS; i++)
+        if (inks[i].met == 0) {
+            printf("bench: of ink on paper no color of %u was asked for\n", inks[i].value);
+            unequal++;
+        }
+}
+
 /* Counts what was not met, so that nothing passes that looked at too little: every mark, every column
  * and every result but 10, for which files are too small. */
 static void count_missing(void)
@@ -395,6 +450,7 @@ static void count_missing(void)
             unequal++;
         }
     count_missing_tall();
+    count_missing_colors();
     if (moved == 0) {
         printf("bench: nothing was moved\n");
         unequal++;
@@ -408,11 +464,10 @@ static void count_missing(void)
 
 unsigned long compare_by_chance(unsigned long count, unsigned long *how_many)
 {
-    static const uint32_t TYPES[] = {1, 2, 3, 9, 10};
     for (unsigned long i = 0; i < count; i++) {
         if (i % 2500 == 0) /* rarely: they take as long as some thousand others */
             compare_tall(i / 2500);
-        const uint32_t type = TYPES[chance(5)], scn = chance(2);
+        const uint32_t type = DATA_TYPES[chance(KINDS)], scn = chance(2);
         const int wide = chance(50) == 0; /* where runs are cut, and bodies too long */
         const uint32_t ppl = wide ? (chance(2) ? 65532 : 32765) + chance(4) : 1 + chance(chance(2) ? 9 : 200);
         const uint32_t nol = wide ? 1 + chance(2) : 1 + chance(12);
@@ -422,10 +477,7 @@ unsigned long compare_by_chance(unsigned long count, unsigned long *how_many)
         reach = 16 * ((size_t)ppl * nol + SPARE) + 2048; /* more than any of them needs */
         marks_reach = 256;
         if (chance(16) == 0) {
-            environ_v(file);
-            file_size = ENVIRON_V_BYTES;
-            if (chance(3) == 0)
-                file[768 + chance(2048)] = (uint8_t)chance(256);
+            make_colored(type);
         } else {
             make_file(type, ppl, nol, scn);
             if (file[195] == 1 && chance(3) == 0)

@@ -127,17 +127,11 @@ uint32_t plain_header(const uint8_t *file, size_t file_size, uint8_t *answer, si
     return 0;
 }
 
-uint32_t plain_color(const uint8_t *file, size_t file_size, uint32_t value,
-                     uint8_t *answer, size_t answer_size)
+/* The color of a value by the table, without one a gray; answers 0 or 25. */
+static uint32_t table_color(const uint8_t *file, const struct header *h, uint32_t value, uint8_t *answer)
 {
-    struct header h;
-    if (answer_size < 12)
-        return 29;
-    const uint32_t number = read_header(file, file_size, &h);
-    if (number != 0)
-        return number;
-    if (h.ctv == 2) {
-        for (uint32_t i = 0; i < h.cte; i++) {
+    if (h->ctv == 2) {
+        for (uint32_t i = 0; i < h->cte; i++) {
             const uint8_t *entry = file + TABLE + 8 * i;
             if (get16(entry) == value) {
                 for (int part = 0; part < 3; part++)
@@ -149,9 +143,43 @@ uint32_t plain_color(const uint8_t *file, size_t file_size, uint32_t value,
     }
     if (value > 255)
         return 25;
-    for (int part = 0; part < 3; part++)
-        put32(answer + 4 * part, 256 * (h.ctv == 1 ? file[TABLE + 3 * value + part] : value));
+    for (uint32_t part = 0; part < 3; part++)
+        put32(answer + 4 * part, 256 * (h->ctv == 1 ? file[TABLE + 3 * value + part] : value));
     return 0;
+}
+
+/* The same of ink on paper. */
+static uint32_t ink_color(uint32_t value, uint8_t *answer)
+{
+    if (value > 1)
+        return 25;
+    for (int part = 0; part < 3; part++)
+        put32(answer + 4 * part, value == 0 ? 65535 : 0);
+    return 0;
+}
+
+uint32_t plain_color(const uint8_t *file, size_t file_size, uint32_t value,
+                     uint8_t *answer, size_t answer_size)
+{
+    struct header h;
+    if (answer_size < 12)
+        return 29;
+    const uint32_t number = read_header(file, file_size, &h);
+    if (number != 0)
+        return number;
+    if (h.ctv == 0 && (h.type == 1 || h.type == 9))
+        return ink_color(value, answer);
+    return table_color(file, &h, value, answer);
+}
+
+uint32_t plain_plotter_color(const uint8_t *file, size_t file_size, uint32_t value,
+                             uint8_t *answer, size_t answer_size)
+{
+    struct header h;
+    if (answer_size < 12)
+        return 29;
+    const uint32_t number = read_header(file, file_size, &h);
+    return number != 0 ? number : table_color(file, &h, value, answer);
 }
 
 /* Reading. Pixels are painted as they are checked, and where a fault shows the row is cleared: to

@@ -13,6 +13,8 @@ uint32_t tuned_raster(const uint8_t *file, size_t file_size, uint8_t *pixels, si
                       uint8_t *marks, size_t marks_size, uint8_t *answer, size_t answer_size);
 uint32_t plain_color(const uint8_t *file, size_t file_size, uint32_t value,
                      uint8_t *answer, size_t answer_size);
+uint32_t plain_plotter_color(const uint8_t *file, size_t file_size, uint32_t value,
+                             uint8_t *answer, size_t answer_size);
 uint32_t plain_turn(uint32_t slo, uint32_t ppl, uint32_t nol, const uint16_t *pixels,
                     size_t pixel_count, uint16_t *upright, size_t upright_count);
 uint32_t plain_turn_back(uint32_t slo, uint32_t ppl, uint32_t nol, const uint16_t *upright,

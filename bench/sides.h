@@ -9,6 +9,7 @@ struct side {
     uint32_t (*header)(const uint8_t *, size_t, uint8_t *, size_t);
     uint32_t (*raster)(const uint8_t *, size_t, uint8_t *, size_t, uint8_t *, size_t, uint8_t *, size_t);
     uint32_t (*color)(const uint8_t *, size_t, uint32_t, uint8_t *, size_t);
+    uint32_t (*plotter_color)(const uint8_t *, size_t, uint32_t, uint8_t *, size_t);
     uint32_t (*turn)(uint32_t, uint32_t, uint32_t, const uint16_t *, size_t, uint16_t *, size_t);
     uint32_t (*turn_back)(uint32_t, uint32_t, uint32_t, const uint16_t *, size_t, uint16_t *, size_t);
     uint32_t (*write)(uint32_t, uint32_t, uint32_t, uint32_t, uint32_t, uint32_t, const uint8_t *, size_t,
