@@ -3,9 +3,10 @@
  * buffers that are just long enough and end where memory that may be touched ends; then with longer
  * ones at odd addresses, and with ones that are too short. Compared: that both give the same, that
  * nothing past what is written changes, that a rejected call changes nothing, and that what was
- * read is written, turned and turned back as it was; and that a file that is moved reads as it did
- * and comes back. Then a raster of more lines than a word counts, with line numbers that roll to 0 and
- * to 1, and the most lines that there can be. Exit status 0 where all is so.
+ * read is written, turned and turned back as it was; that a file that is moved reads as it did
+ * and comes back; and the colors of files without a table. Then a raster of more lines than a word
+ * counts, with line numbers that roll to 0 and to 1, and the most lines that there can be. Exit
+ * status 0 where all is so.
  */
 #define _GNU_SOURCE /* MAP_ANONYMOUS */
 #include <stdio.h>
@@ -78,17 +79,60 @@ static uint32_t header(const uint8_t *file, size_t size, uint8_t *head)
     return result;
 }
 
-static void colors(const uint8_t *file, size_t size, uint32_t rejected)
+/* ingr_color or ingr_plotter_color. */
+typedef uint32_t color_call(const uint8_t *file, size_t size, uint32_t value, uint8_t *answer, size_t answer_size);
+
+static uint32_t color(color_call *call, const uint8_t *file, size_t size, uint32_t value)
 {
-    for (uint32_t value = 0; value < 300; value += 37) {
-        uint8_t *answer = last(answer_edge, INGR_COLOR_ANSWER);
-        const uint32_t result = ingr_color(file, size, value, answer, INGR_COLOR_ANSWER);
+    uint8_t *answer = last(answer_edge, INGR_COLOR_ANSWER);
+    const uint32_t result = call(file, size, value, answer, INGR_COLOR_ANSWER);
+    check(result == 0 || untouched(answer, INGR_COLOR_ANSWER), "a rejected color call");
+    memset(more_answer, OLD, sizeof more_answer);
+    check(call(file, size, value, more_answer + 1, sizeof more_answer - 1) == result &&
+              memcmp(more_answer + 1, answer, INGR_COLOR_ANSWER) == 0 && untouched(more_answer, 1) &&
+              untouched(more_answer + 1 + INGR_COLOR_ANSWER, SPARE - 1),
+          "a color with a longer answer");
+    answer = last(answer_edge, INGR_COLOR_ANSWER - 1);
+    check(call(file, size, value, answer, INGR_COLOR_ANSWER - 1) == INGR_ANSWER_TOO_SHORT &&
+              call(file, size, value, NULL, 0) == INGR_ANSWER_TOO_SHORT && untouched(answer, INGR_COLOR_ANSWER - 1),
+          "a color with a short answer");
+    return result;
+}
+
+static void colors(color_call *call, const uint8_t *file, size_t size, uint32_t rejected)
+{
+    static const uint32_t VALUES[] = {0, 1, 2, 37, 255, 256, 65535};
+    for (size_t i = 0; i < sizeof VALUES / sizeof *VALUES; i++) {
+        const uint32_t result = color(call, file, size, VALUES[i]);
         check(rejected ? result == rejected : result == 0 || result == INGR_NO_COLOR, "a color's number");
-        check(result == 0 || untouched(answer, INGR_COLOR_ANSWER), "a rejected color call");
     }
-    check(ingr_color(file, size, 0, NULL, 0) == INGR_ANSWER_TOO_SHORT, "a color with no answer");
-    check(rejected || ingr_color(file, size, 65536, last(answer_edge, INGR_COLOR_ANSWER),
-                                 INGR_COLOR_ANSWER) == INGR_NO_COLOR, "the color of 65,536");
+    for (uint32_t wide = 65536; wide <= 65537; wide++)
+        check(color(call, file, size, wide) == (rejected ? rejected : INGR_NO_COLOR), "the color of more than 65,535");
+}
+
+/* In the place of a color's parts, where there is none. */
+enum { NONE = 65536 };
+
+/* Whether the color of a value has three times that part. */
+static int is_color(color_call *call, const uint8_t *file, size_t size, uint32_t value, uint32_t part)
+{
+    uint8_t answer[INGR_COLOR_ANSWER];
+    const uint32_t result = call(file, size, value, answer, sizeof answer);
+    if (part == NONE)
+        return result == INGR_NO_COLOR;
+    return result == 0 && INGR_NUMBER(answer, INGR_COLOR_RED) == part &&
+           INGR_NUMBER(answer, INGR_COLOR_GREEN) == part && INGR_NUMBER(answer, INGR_COLOR_BLUE) == part;
+}
+
+/* The colors of an accepted file without a table: ink on paper in types 1 and 9, and grays, to the plotter
+ * always. */
+static void without_table(const uint8_t *file, size_t size, uint32_t type)
+{
+    for (uint32_t value = 0; value <= 300; value++) {
+        const uint32_t gray = value <= 255 ? 256 * value : NONE, ink = value == 0 ? 65535 : value == 1 ? 0 : NONE;
+        check(is_color(ingr_color, file, size, value, type == 1 || type == 9 ? ink : gray), "a color without a table");
+        check(is_color(ingr_plotter_color, file, size, value, gray), "the plotter's color without a table");
+    }
 }
 
 /* Reads an accepted file, and leaves its pixels and marks before their edges. */
@@ -243,6 +287,7 @@ static void longest(void)
     check(ingr_header(zeros, most, answer, sizeof answer) == INGR_BAD_HTC, "the longest file");
     check(ingr_header(zeros, most + 1, answer, sizeof answer) == INGR_FILE_TOO_LONG &&
               ingr_color(zeros, most + 1, 0, answer, sizeof answer) == INGR_FILE_TOO_LONG &&
+              ingr_plotter_color(zeros, most + 1, 0, answer, sizeof answer) == INGR_FILE_TOO_LONG &&
               ingr_raster(zeros, most + 1, NULL, 0, NULL, 0, answer, sizeof answer) == INGR_FILE_TOO_LONG &&
               ingr_move(zeros, most + 1, NULL, 0, answer, sizeof answer) == INGR_FILE_TOO_LONG,
           "a file that is too long");
@@ -389,7 +434,8 @@ int main(int argc, char **argv)
         for (size_t size = 0; size <= full; size++) {
             uint8_t head[INGR_HEADER_ANSWER], *file = memcpy(file_edge - size, whole, size);
             const uint32_t rejected = header(file, size, head);
-            colors(file, size, rejected);
+            colors(ingr_color, file, size, rejected);
+            colors(ingr_plotter_color, file, size, rejected);
             if (rejected != 0)
                 continue;
             const uint32_t ppl = INGR_NUMBER(head, INGR_HEADER_PPL), nol = INGR_NUMBER(head, INGR_HEADER_NOL);
@@ -398,6 +444,8 @@ int main(int argc, char **argv)
             moved_and_back(whole, size, type, ppl, nol, good);
             if (size < full)
                 continue;
+            if (INGR_NUMBER(head, INGR_HEADER_CTV) == 0)
+                without_table(memcpy(file_edge - size, whole, size), size, type);
             written(type, ppl, nol, INGR_NUMBER(head, INGR_HEADER_SLO), INGR_NUMBER(head, INGR_HEADER_SCN));
             turned(ppl, nol);
         }
@@ -406,7 +454,9 @@ int main(int argc, char **argv)
     make_tall();
     tall();
     most_lines();
-    check(ingr_header(NULL, 0, last(answer_edge, INGR_HEADER_ANSWER), INGR_HEADER_ANSWER) == INGR_FILE_TOO_SHORT,
+    check(ingr_header(NULL, 0, last(answer_edge, INGR_HEADER_ANSWER), INGR_HEADER_ANSWER) == INGR_FILE_TOO_SHORT &&
+              color(ingr_color, NULL, 0, 0) == INGR_FILE_TOO_SHORT &&
+              color(ingr_plotter_color, NULL, 0, 0) == INGR_FILE_TOO_SHORT,
           "no file");
     printf("c_guard: %lu comparisons, %lu wrong\n", compared, wrong);
     return wrong == 0 && compared > 10000 ? 0 : 1;

@@ -55,6 +55,12 @@ static void *do_color(void *none)
     return none;
 }
 
+static void *do_plotter_color(void *none)
+{
+    job.result = ingr_plotter_color(job.file, job.file_size, 1, job.answer, sizeof job.answer);
+    return none;
+}
+
 static void *do_raster(void *none)
 {
     job.result = ingr_raster(job.file, job.file_size, (uint8_t *)job.pixels, 2 * job.count,
@@ -167,8 +173,8 @@ static int round_trip(uint32_t type, uint32_t scn, uint32_t highest)
     job.scn = scn;
     paint(job.picture, highest);
     memset(job.pixels, 0xEE, sizeof *job.pixels * job.count);
-    if (!run("ingr_write", do_write) || !run("ingr_header", do_header) ||
-        !run("ingr_color", do_color) || !run("ingr_raster", do_raster) ||
+    if (!run("ingr_write", do_write) || !run("ingr_header", do_header) || !run("ingr_color", do_color) ||
+        !run("ingr_plotter_color", do_plotter_color) || !run("ingr_raster", do_raster) ||
         memcmp(job.pixels, job.picture, sizeof *job.pixels * job.count) != 0 || !run("ingr_turn", do_turn))
         return 0;
     memset(job.pixels, 0xEE, sizeof *job.pixels * job.count);
@@ -211,7 +217,8 @@ static int with_table(void)
     file[537] = 1; /* CTE, 256 */
     for (size_t slot = 0; slot < 256; slot++)
         file[768 + 8 * slot] = (uint8_t)slot;
-    return run("ingr_header", do_header) && run("ingr_color", do_color) && run("ingr_raster", do_raster);
+    return run("ingr_header", do_header) && run("ingr_color", do_color) &&
+           run("ingr_plotter_color", do_plotter_color) && run("ingr_raster", do_raster);
 }
 
 int main(void)
