@@ -20,6 +20,9 @@ pub record ColorNumbers : Type 0 where
 abbrev pub color : ℕ → ℕ → ℕ → ColorNumbers
 color r g b = record { number = 0; red = r; green = g; blue = b }
 
+abbrev pub evenColor : ℕ → ColorNumbers
+evenColor c = color c c c
+
 abbrev pub noColor : ℕ → ColorNumbers
 noColor n = record { number = n; red = 0; green = 0; blue = 0 }
 
@@ -60,7 +63,7 @@ isInked dtc ctv = eqb ctv 0 && (eqb dtc 1 || eqb dtc 9)
 
 -- "let 0 be 65535 three times and 1 be 0 three times": white paper and black ink
 abbrev pub inkColor : ℕ → ColorNumbers
-inkColor v = cond (eqb v 0) (color 65535 65535 65535) (cond (eqb v 1) (color 0 0 0) (noColor 25))
+inkColor v = cond (eqb v 0) (evenColor 65535) (cond (eqb v 1) (evenColor 0) (noColor 25))
 
 abbrev pub shownColor : List ℕ → ℕ → ColorNumbers
 shownColor f v = cond (isInked (fieldsOf f .dtc) (fieldsOf f .ctv)) (inkColor v) (tableColor f v)

@@ -5,7 +5,7 @@ use mathlib.Core.Path.{_≡_}
 use mathlib.Core.List.{List}
 use Rattle.fields.specs.Fields.{fieldsOf}
 use Rattle.header.specs.Rejections.{rejectionTo22}
-use Rattle.color.specs.Color.{color, scaled, inkColor, colorReading, plotterReading}
+use Rattle.color.specs.Color.{evenColor, scaled, inkColor, colorReading, plotterReading}
 
 -- a file that is not rejected, "types 1 and 9 with CTV 0", and a value of at most 255: above that neither call has a color
 pub record OnPaper (f : List ℕ) (v : ℕ) : Type 0 where
@@ -17,7 +17,7 @@ pub record OnPaper (f : List ℕ) (v : ℕ) : Type 0 where
 pub record TwoColors (f : List ℕ) (v : ℕ) : Type 0 where
   pub alike : (colorReading f v ≡ plotterReading f v) ↔ (OnPaper f v → ⊥)
   pub shown : OnPaper f v → colorReading f v ≡ inkColor v
-  pub plotted : OnPaper f v → plotterReading f v ≡ color (scaled v) (scaled v) (scaled v)
+  pub plotted : OnPaper f v → plotterReading f v ≡ evenColor (scaled v)
 
 -- `colors-differ` proves it.
 abbrev pub ColorsDiffer : Type 0

@@ -3,7 +3,7 @@ ghost use mathlib.Core.Path.{_≡_};
 ghost use mathlib.Core.Bool.{cond};
 ghost use Rattle.fields.specs.Fields.{fieldsOf};
 ghost use Rattle.header.specs.Rejections.{rejectionTo22};
-ghost use Rattle.color.specs.Color.{colorNumbers, colorReading, plotterReading, isInked, inkColor, tableColor, grayColor, igdsColor, environColor, entryColor};
+ghost use Rattle.color.specs.Color.{colorNumbers, colorReading, plotterReading, isInked, inkColor, tableColor, evenColor, grayColor, igdsColor, environColor, entryColor};
 use fields::Fields;
 use fields::fields_of;
 use header::entry_start;
@@ -26,6 +26,10 @@ pub enum ColorAnswer {
 
 // A part c of one byte is 256c in 16 bits: the scale of colors, and no unit of the format.
 const SCALE: u16 = 256;
+
+const PAPER: u16 = 65535;
+
+const INK: u16 = 0;
 
 // The color of a pixel value in a file, as it is shown: a bi-level file without a table is ink on paper.
 pub fn color_of(file: &[u8], value: u32) -> ColorAnswer
@@ -69,25 +73,28 @@ fn is_inked(dtc: u16, ctv: u16) -> bool
     dtc == 9
 }
 
-// White paper and black ink.
+// Black ink on white paper.
 fn ink_color(value: u32) -> ColorAnswer
     ensures { λ r. ⌜ colorNumbers r ≡ inkColor value ⌝ }
 {
     if value == 0 {
-        return ColorAnswer::Found(Rgb {
-            red: 65535,
-            green: 65535,
-            blue: 65535,
-        });
+        return even_color(PAPER);
     }
     if value == 1 {
-        return ColorAnswer::Found(Rgb {
-            red: 0,
-            green: 0,
-            blue: 0,
-        });
+        return even_color(INK);
     }
     ColorAnswer::Rejected(25)
+}
+
+// A color of three parts that are the same.
+fn even_color(part: u16) -> ColorAnswer
+    ensures { λ r. ⌜ colorNumbers r ≡ evenColor part ⌝ }
+{
+    ColorAnswer::Found(Rgb {
+        red: part,
+        green: part,
+        blue: part,
+    })
 }
 
 // The color by the table of a file that is not rejected and has these fields.
@@ -112,12 +119,7 @@ fn gray_color(value: u32) -> ColorAnswer
     if 255 < value {
         return ColorAnswer::Rejected(25);
     }
-    let part = SCALE * (value as u16);
-    ColorAnswer::Found(Rgb {
-        red: part,
-        green: part,
-        blue: part,
-    })
+    even_color(SCALE * (value as u16))
 }
 
 fn igds_color(file: &[u8], value: u32) -> ColorAnswer

@@ -8,6 +8,7 @@ use lib.ListN.{length, getD, take}
 use lib.Dec.{eqb}
 use Rattle.codec.specs.Table.{bodyBytes}
 use Rattle.header.specs.Reading.{HeaderNumbers, headerReading}
+use Rattle.color.specs.Color.{colorReading, plotterReading}
 use Rattle.layout.specs.Chain.{Raster, sheetOf, from, stepAt, start, bodyAt, readingAt, endOf}
 use Rattle.layout.specs.Reading.{rasterReading, pixelsAfter, marksAfter}
 use Rattle.transcode_parts.specs.Headers.{otherType}
@@ -61,10 +62,12 @@ withDataType t h =
       cte = h .cte;
     }
 
--- the new sheet read into buffers that held pixels and marks, with room for it: the header but for its type, every mark and every pixel are
--- those of the old one
+-- the new sheet read into buffers that held pixels and marks, with room for it: the header but for its type, the colors, every mark and every
+-- pixel are those of the old one
 pub record ReadsAsBefore (f pixels marks : List ℕ) : Type 0 where
   pub header : headerReading (transcoded f) ≡ withDataType (otherType (sheetOf f .dataType)) (headerReading f)
+  pub colors : (v : ℕ) → colorReading (transcoded f) v ≡ colorReading f v
+  pub plotter-colors : (v : ℕ) → plotterReading (transcoded f) v ≡ plotterReading f v
   pub answer : rasterReading (transcoded f) pixels marks ≡ record { answer = 0; good = sheetOf f .nol; end = length (transcoded f) }
   pub marks-are : marksAfter (transcoded f) pixels marks ≡ marksAfter f pixels marks
   pub pixels-are : pixelsAfter (transcoded f) pixels marks ≡ pixelsAfter f pixels marks

@@ -1,4 +1,5 @@
 pub mod Chain
+pub mod Colors
 pub mod Front
 pub mod Header
 pub mod Law

@@ -10,7 +10,7 @@ use borrow.Author.Tests.{eq-eqb, ne-eqb, lt-ltb, eqb-true, eqb-false, le-ltb, lt
 use Rattle.units.specs.laws.Rules.{both-true}
 use Rattle.fields.specs.Fields.{fieldsOf}
 use Rattle.header.specs.Rejections.{rejectionTo22}
-use Rattle.color.specs.Color.{ColorNumbers, color, noColor, scaled, grayColor, tableColor, isInked, inkColor, colorReading, plotterReading}
+use Rattle.color.specs.Color.{ColorNumbers, evenColor, noColor, scaled, grayColor, tableColor, isInked, inkColor, colorReading, plotterReading}
 use Rattle.color.specs.Statement.{OnPaper, TwoColors, ColorsDiffer}
 use Rattle.color.specs.laws.Colors.{both-rejected, by-plotter, by-ink, by-table}
 
@@ -27,11 +27,11 @@ bilevel t h = go (eqb t 1) refl
     go false e = inr (eqb-true t 9 (rw e at h))
 
 -- ink is no gray
-not-gray : (v : ℕ) → inkColor v ≡ color (scaled v) (scaled v) (scaled v) → ⊥
+not-gray : (v : ℕ) → inkColor v ≡ evenColor (scaled v) → ⊥
 not-gray v = go (eqb v 0) (eqb v 1) refl refl
   where
     go : (b d : Bool) → eqb v 0 ≡ b → eqb v 1 ≡ d
-        → cond b (color 65535 65535 65535) (cond d (color 0 0 0) (noColor 25)) ≡ color (scaled v) (scaled v) (scaled v) → ⊥
+        → cond b (evenColor 65535) (cond d (evenColor 0) (noColor 25)) ≡ evenColor (scaled v) → ⊥
     go true d e u h = omega (arith, eqb-true v 0 e, ap (λ (x : ColorNumbers). x .red) h)
     go false true e u h = omega (arith, eqb-true v 1 u, ap (λ (x : ColorNumbers). x .red) h)
     go false false e u h = omega (arith, ap (λ (x : ColorNumbers). x .number) h)
@@ -41,7 +41,7 @@ module _ (f : List ℕ) (v : ℕ) where
     shown : colorReading f v ≡ inkColor v
     shown = by-ink f v (p .accepted) (is-inked (p .bilevel) (p .no-table))
 
-    plotted : plotterReading f v ≡ color (scaled v) (scaled v) (scaled v)
+    plotted : plotterReading f v ≡ evenColor (scaled v)
     plotted = by-plotter f v (p .accepted) ∙ rw (p .no-table, le-ltb 255 v (p .one-byte))
 
     differ : colorReading f v ≡ plotterReading f v → ⊥

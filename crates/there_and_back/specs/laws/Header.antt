@@ -1,4 +1,5 @@
--- The header of a transcoded file: every byte is the old one but for the data type, so its fields are, and it is not rejected.
+-- The header of a transcoded file: every byte is the old one but for the data type, so its fields are, it is not rejected, and it has the
+-- same colors: both types are ink on paper.
 use Prim.Native.Nat.{ℕ, _+_, _*_, _≤_, _<_}
 use mathlib.Core.Path.{_≡_, refl, sym, _∙_, ap, ap₂, subst⁻¹}
 use mathlib.Core.Bool.{true}
@@ -19,9 +20,11 @@ use Rattle.fields.specs.Fields.{fieldsOf, headerBlocks}
 use Rattle.limits.specs.laws.Limits.{none-rejects}
 use Rattle.header.specs.Rejections.{frameRules, fieldRules, colorTableRules, rulesTo22, rejectionTo22}
 use Rattle.header.specs.laws.Accepted.{Accepted, accepted}
+use Rattle.color.specs.Color.{isInked, colorReading, plotterReading}
 use Rattle.layout.specs.Chain.{sheetOf}
 use Rattle.isolation.specs.laws.Headers.{same-table}
 use Rattle.trailing.specs.laws.Header.{frame-holds}
+use Rattle.trailing.specs.laws.Colors.{same-color, same-plotter}
 use Rattle.transcode_parts.specs.Headers.{otherType}
 use Rattle.transcode.specs.File.{carriedHeader, newLines, transcoded}
 use Rattle.there_and_back.specs.laws.Levels.{TwoLevels}
@@ -48,6 +51,10 @@ other-known : (t : ℕ) → TwoLevels t → isDataType (otherType t) ≡ true
 unfolding isDataType
 other-known t (inl e) = rw e
 other-known t (inr e) = rw e
+
+other-inked : (t ctv : ℕ) → TwoLevels t → isInked (otherType t) ctv ≡ isInked t ctv
+other-inked t ctv (inl e) = rw e
+other-inked t ctv (inr e) = rw e
 
 module _ (f : List ℕ) (ok : rejectionTo22 f ≡ 0) (two : TwoLevels (fieldsOf f .dtc)) where
   a : Accepted f
@@ -145,3 +152,21 @@ module _ (f : List ℕ) (ok : rejectionTo22 f ≡ 0) (two : TwoLevels (fieldsOf 
       ∙ first-later (fieldRules h₂) (colorTableRules g h₂) tt fields
       ∙ ap first table
       ∙ others .1)
+
+  module _ (also-ok : rejectionTo22 (transcoded f) ≡ 0) (v : ℕ) where
+    table-kept : (i : ℕ) → 768 ≤ i → i < size → getD (transcoded f) i 0 ≡ getD f i 0
+    table-kept i low h = elsewhere i h (λ x y. omega arith)
+
+    ctv-kept : fieldsOf (transcoded f) .ctv ≡ fieldsOf f .ctv
+    ctv-kept = ap (λ (h : Fields). h .ctv) fields-are
+
+    cte-kept : fieldsOf (transcoded f) .cte ≡ fieldsOf f .cte
+    cte-kept = ap (λ (h : Fields). h .cte) fields-are
+
+    pub color-kept : colorReading (transcoded f) v ≡ colorReading f v
+    color-kept =
+        same-color f (transcoded f) ok also-ok table-kept ctv-kept cte-kept v
+        (ap (λ (h : Fields). isInked (h .dtc) (h .ctv)) fields-are ∙ other-inked (fieldsOf f .dtc) (fieldsOf f .ctv) two)
+
+    pub plotter-color-kept : plotterReading (transcoded f) v ≡ plotterReading f v
+    plotter-color-kept = same-plotter f (transcoded f) ok also-ok table-kept ctv-kept cte-kept v

@@ -23,7 +23,7 @@ use Rattle.transcode.specs.File.{carriedHeader, newLineAt, newLines, transcoded
 use Rattle.there_and_back.specs.Statement.{IsBytes, BodiesAsWritten, NothingFollows, ComesBack, ReadsAsBefore, AllReadAsBefore}
 use Rattle.there_and_back.specs.laws.Chain.{other-other, packed-written, lined, numbered, lines-again}
 use Rattle.there_and_back.specs.laws.Given.{Given, given, accepted-too, moved, same-start, same-lines}
-use Rattle.there_and_back.specs.laws.Header.{length-carried, is-split, fields-are}
+use Rattle.there_and_back.specs.laws.Header.{length-carried, is-split, fields-are, color-kept, plotter-color-kept}
 use Rattle.there_and_back.specs.laws.Line.{bytes-take}
 use Rattle.there_and_back.specs.laws.Placing.{word-again, word-same}
 
@@ -126,6 +126,8 @@ reads-so f pixels marks g l m =
     let b = room-enough (transcoded f) pixels marks (accepted-too f g) (omega arith) (omega arith) in
     record {
       header = rw (accepted-too f g, g .file) (ap fieldNumbers fields);
+      colors = color-kept f (g .file) (g .movable .two) (accepted-too f g);
+      plotter-colors = plotter-color-kept f (g .file) (g .movable .two) (accepted-too f g);
       answer = rw b (numbers-are f g);
       marks-are =
           rw (a, b)

@@ -12,6 +12,7 @@ use Rattle.fields.specs.Fields.{fieldsOf}
 use Rattle.header.specs.Rejections.{rulesTo22, rejectionTo22}
 use Rattle.header.specs.laws.Accepted.{accepted}
 use Rattle.layout.specs.Scanline.{Reading, readingOf}
+use Rattle.color.specs.Color.{isInked}
 use Rattle.layout.specs.Chain.{Raster, sheetOf, from, start, reached, numberOf, rows, statuses, endOf}
 use Rattle.layout.specs.Reading.{RasterNumbers, bufferRules, rasterRejection, answerOf, readNumbers}
 use Rattle.layout.specs.laws.Chain.{start-zero, start-within, reached-zero, reached-suc, reading-reached}
@@ -23,7 +24,8 @@ use Rattle.isolation.specs.laws.TwoFiles.{sheet-by-fields}
 use Rattle.isolation.specs.laws.Law.{accepted-file}
 use Rattle.trailing.specs.Statement.{SameUpTo, NoneLost, TrailingIgnored, AppendedIgnored, GoodNoneLost}
 use Rattle.trailing.specs.laws.Front.{front-by-byte}
-use Rattle.trailing.specs.laws.Header.{same-header, also-accepted, same-reading, same-color, same-plotter}
+use Rattle.trailing.specs.laws.Header.{same-header, also-accepted, same-reading}
+use Rattle.trailing.specs.laws.Colors.{same-color, same-plotter}
 use Rattle.trailing.specs.laws.Chain.{SameLines, same-lines}
 
 -- a file that is not rejected ends within itself
@@ -58,12 +60,15 @@ trailing-ignored f g pixels marks ok none front short =
     let same : (i : ℕ) → i < r .dataStart → getD g i 0 ≡ getD f i 0 = λ i h. front .same i (omega arith) in
     let also-ok = also-accepted f g file-ok same (omega (arith, front .long)) short in
     let fields = same-header f g file-ok same in
+    let table : (i : ℕ) → 768 ≤ i → i < r .dataStart → getD g i 0 ≡ getD f i 0 = λ i low. same i in
+    let ctv = ap (λ (h : Fields). h .ctv) fields in
+    let cte = ap (λ (h : Fields). h .cte) fields in
     let also-read = also-room f g (length pixels) (length marks) ok also-ok fields in
     let sheet = sheet-by-fields f g fields in
     record {
       header = same-reading f g file-ok same also-ok;
-      colors = same-color f g file-ok same also-ok;
-      plotter-colors = same-plotter f g file-ok same also-ok;
+      colors = λ v. same-color f g file-ok also-ok table ctv cte v (ap (λ (h : Fields). isInked (h .dtc) (h .ctv)) fields);
+      plotter-colors = same-plotter f g file-ok also-ok table ctv cte;
       accepted = also-read;
       answer =
           answer-is g pixels marks also-read
