@@ -80,10 +80,10 @@ fn ink_color(value: u32) -> ColorAnswer
     if value == 0 {
         return even_color(PAPER);
     }
-    if value == 1 {
-        return even_color(INK);
+    if value != 1 {
+        return ColorAnswer::Rejected(25);
     }
-    ColorAnswer::Rejected(25)
+    even_color(INK)
 }
 
 // A color of three parts that are the same.
