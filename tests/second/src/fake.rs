@@ -3,10 +3,11 @@
 //! they are the model.
 
 use crate::misread::{self, misread, Misreading};
+use crate::model::header::{self, Coloring};
 use crate::model::sheet::Unpacking;
 use crate::model::writer::{self, Coding};
 use crate::model::{long, probe, sheet, MOST_LINES};
-use crate::{miscut, mispack};
+use crate::{miscolor, miscut, mispack};
 use std::io::{self, Read, Write};
 use std::time::Duration;
 
@@ -21,6 +22,8 @@ enum Change {
     Before(fn(&mut Vec<u8>)),
     /// To the output, after it.
     After(fn(&mut Vec<u8>)),
+    /// To the colors that the header program finds.
+    Miscolor(Coloring),
     /// To the lines that the listing program reads.
     Misread(Misreading),
     /// To the packed words that the listing program reads.
@@ -38,6 +41,10 @@ const fn before(name: &'static str, change: fn(&mut Vec<u8>)) -> Defect {
 
 const fn after(name: &'static str, change: fn(&mut Vec<u8>)) -> Defect {
     Defect { name, change: Change::After(change) }
+}
+
+const fn miscolors(name: &'static str, change: Coloring) -> Defect {
+    Defect { name, change: Change::Miscolor(change) }
 }
 
 const fn misreads(name: &'static str, change: Misreading) -> Defect {
@@ -60,7 +67,7 @@ const fn refused(name: &'static str, change: fn(&mut Call)) -> Defect {
     Defect { name, change: Change::Refused(change) }
 }
 
-const HEADER: [Defect; 12] = [
+const HEADER: [Defect; 34] = [
     // CTV taken as one byte.
     before("ctv-byte", |file| keep(file, 533, 0)),
     // PPL taken as 16 bits.
@@ -73,6 +80,28 @@ const HEADER: [Defect; 12] = [
     after("colors-twice", |out| {
         replace(out, "\n255: 65280 65280 65280\n", "\n255: 65535 65535 65535\n")
     }),
+    miscolors("ink-and-paper-exchanged", miscolor::exchanged),
+    miscolors("paper-65280", miscolor::paper_65280),
+    miscolors("paper-0", miscolor::paper_0),
+    miscolors("ink-256", miscolor::ink_256),
+    miscolors("2-gray-still", miscolor::gray_still::<2>),
+    miscolors("255-gray-still", miscolor::gray_still::<255>),
+    miscolors("ink-of-2", miscolor::ink_too::<2>),
+    miscolors("ink-of-255", miscolor::ink_too::<255>),
+    miscolors("ink-of-256", miscolor::ink_too::<256>),
+    miscolors("ink-in-type-2", miscolor::inked_too::<2>),
+    miscolors("ink-in-type-3", miscolor::inked_too::<3>),
+    miscolors("ink-in-type-10", miscolor::inked_too::<10>),
+    miscolors("no-ink-in-type-1", miscolor::not_inked::<1>),
+    miscolors("no-ink-in-type-9", miscolor::not_inked::<9>),
+    miscolors("no-ink", header::plotter_color),
+    miscolors("type-1-inked-over-igds", miscolor::inked_over::<1, 1>),
+    miscolors("type-9-inked-over-igds", miscolor::inked_over::<1, 9>),
+    miscolors("type-1-inked-over-environ-v", miscolor::inked_over::<2, 1>),
+    miscolors("type-9-inked-over-environ-v", miscolor::inked_over::<2, 9>),
+    miscolors("inked-without-slot", miscolor::inked_without_slot),
+    after("ink-25-as-22", |out| replace(out, "\n2: refused 25\n", "\n2: refused 22\n")),
+    after("ink-25-as-0", |out| replace(out, "\n2: refused 25\n", "\n")),
     after("type-1-refused", |out| {
         if out.starts_with(b"type 1 ") {
             *out = b"refused 16\n".to_vec();
@@ -425,6 +454,7 @@ pub fn play(name: &str) -> bool {
         change(&mut input);
     }
     let mut output = match change {
+        Some(Change::Miscolor(wrong)) => probe::header_by(*wrong, &input),
         Some(Change::Misread(wrong)) => misread_listing(&input, *wrong),
         Some(Change::Unpack(wrong)) => unpacked_listing(&input, wrong),
         Some(Change::Miscode(wrong)) => {
@@ -436,7 +466,13 @@ pub fn play(name: &str) -> bool {
         Some(Change::After(change)) => change(&mut output),
         Some(Change::Turned(change)) => calls(&input, &mut output, "turned ", *change),
         Some(Change::Refused(change)) => calls(&input, &mut output, "refused ", *change),
-        Some(Change::Before(_) | Change::Misread(_) | Change::Unpack(_) | Change::Miscode(_))
+        Some(
+            Change::Before(_)
+            | Change::Miscolor(_)
+            | Change::Misread(_)
+            | Change::Unpack(_)
+            | Change::Miscode(_),
+        )
         | None => {}
     }
     // Whoever closed the pipe wants no more.

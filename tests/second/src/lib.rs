@@ -4,9 +4,11 @@
 
 mod args;
 mod calls;
+mod color_edges;
 mod edges;
 mod fake;
 mod gen;
+mod miscolor;
 mod miscut;
 mod mismove;
 mod misnumber;

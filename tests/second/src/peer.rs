@@ -1,5 +1,6 @@
 //! Sheets that another program wrote, each with a note of its fields and pixels.
 
+use crate::model::header::Color;
 use std::fs;
 use std::path::Path;
 
@@ -42,5 +43,21 @@ impl Peer {
     pub fn note(&self, word: &str) -> Option<i64> {
         let at = self.notes.iter().position(|note| note == word)?;
         self.notes.get(at + 1)?.parse().ok()
+    }
+
+    /// The color of a value and what the plotter is told: one sheet has the palette that was handed to
+    /// the other program, and no other has any.
+    pub fn colors(&self, value: u64) -> [Color; 2] {
+        let gray = Some([256 * value; 3]);
+        match (self.name, value) {
+            (_, 256..) => [None; 2],
+            ("byte_palette.cot", v) => {
+                [Some([7 * v % 256, (5 + 3 * v) % 256, 255 - v].map(|part| 256 * part)); 2]
+            }
+            ("bilevel.rle", 0) => [Some([65_535; 3]), gray],
+            ("bilevel.rle", 1) => [Some([0; 3]), gray],
+            ("bilevel.rle", _) => [None, gray],
+            _ => [gray; 2],
+        }
     }
 }

@@ -182,7 +182,7 @@ fn answers(rng: &mut Rng) -> Vec<What> {
             all.push(What::Header { file: file.clone(), answer, first: None });
         }
         for answer in 0..=COLOR_ANSWER + 9 {
-            for value in [7, 256] {
+            for value in [1, 256] {
                 all.push(What::Color { file: file.clone(), value, answer });
             }
         }

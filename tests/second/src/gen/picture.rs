@@ -2,6 +2,7 @@
 
 use super::header::some_drs;
 use super::sheet::{some_row, words, TYPES};
+use crate::model::header::{color_by_type, gray, Color};
 use crate::model::writer::{self, Order};
 use crate::model::{Rejection, MOST_LINES};
 use crate::rng::Rng;
@@ -73,6 +74,15 @@ impl Picture {
             pixels: &self.pixels,
             room: self.room as usize,
         })
+    }
+
+    /// The color of a value in what is written, and what the plotter is told.
+    pub fn colors(&self, value: u64) -> [Color; 2] {
+        if self.table.is_empty() {
+            return [color_by_type(self.kind.into(), value), gray(value)];
+        }
+        let entry = self.table.chunks(3).nth(value as usize);
+        [entry.map(|parts| [0, 1, 2].map(|i| 256 * u64::from(parts[i]))); 2]
     }
 
     /// Gives as much room as the file needs, and `more` bytes, as far as the program has it.

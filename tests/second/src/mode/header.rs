@@ -1,5 +1,6 @@
 //! Mode `header`: headers and colors through the header program.
 
+use crate::color_edges::{color_edges, ColorEdge};
 use crate::gen::headers::{fixed, random, Input, BY_CHANCE, FIXED, REJECTIONS};
 use crate::gen::some_pause;
 use crate::model::header::{self, Resolution};
@@ -14,17 +15,22 @@ use std::process::ExitCode;
 
 pub const DEFAULT_COUNT: u64 = 6_000;
 const OTHER: &str = "sheets of another program";
+const COLORS: &str = "colors by hand";
 
 pub fn run(program: &Program, peer: &Path, plan: &Plan) -> Result<ExitCode, String> {
     let peers = Peer::all(peer)?;
+    let edges = color_edges();
     let fixed = fixed(plan.seed);
-    let total = plan.count.max(fixed.len() + peers.len());
+    let total = plan.count.max(peers.len() + edges.len() + fixed.len());
     Ok(report::drive("header", plan, total, &needed(plan), |i| {
         let mut rng = Rng::new(plan.seed, i as u64);
         if let Some(peer) = peers.get(i) {
             return check_peer(program, peer);
         }
-        match fixed.get(i - peers.len()) {
+        if let Some(edge) = edges.get(i - peers.len()) {
+            return check_colors(program, edge);
+        }
+        match fixed.get(i - peers.len() - edges.len()) {
             Some(input) => check(program, &mut rng, input),
             None => {
                 let input = random(&mut rng);
@@ -37,7 +43,7 @@ pub fn run(program: &Program, peer: &Path, plan: &Plan) -> Result<ExitCode, Stri
 fn needed(plan: &Plan) -> Needed {
     let mut reached: Vec<String> = REJECTIONS.map(|n| format!("refused {n}")).collect();
     reached.extend(["accepted", "too long"].map(String::from));
-    let mut families = vec![OTHER];
+    let mut families = vec![OTHER, COLORS];
     families.extend(FIXED);
     if plan.count >= DEFAULT_COUNT as usize {
         families.extend(BY_CHANCE);
@@ -65,6 +71,25 @@ fn check_first(wanted: &[u8], first: &str, input: &[u8]) -> Result<(), Fault> {
             vec![("input", input.to_vec()), ("wanted", wanted.to_vec())],
         )),
     }
+}
+
+/// Colors written out by hand against the model.
+fn check_colors(program: &Program, edge: &ColorEdge) -> io::Result<Outcome> {
+    let wanted = probe::header(&edge.file);
+    let found = report::compare(program, &edge.file, None, &wanted)?.then(|| {
+        let text = String::from_utf8_lossy(&wanted);
+        let values: Vec<u64> = probe::values().collect();
+        let printed = edge.known.iter().filter(|(value, _)| values.contains(&u64::from(*value)));
+        for (value, [color, _]) in printed {
+            let line = probe::color_line(u64::from(*value), *color);
+            if !text.lines().any(|told| told == line) {
+                let dumps = vec![("input", edge.file.clone()), ("wanted", wanted.clone())];
+                return Err(fault(format!("own reader does not say \"{line}\""), dumps));
+            }
+        }
+        Ok(())
+    });
+    Ok(Outcome { family: COLORS, reached: vec![reached(&wanted)], found: found.named(&edge.name) })
 }
 
 fn reached(wanted: &[u8]) -> String {
@@ -110,14 +135,11 @@ fn agrees(peer: &Peer) -> Result<(), String> {
             return Err(format!("{name} read as {found}, noted as {noted:?}"));
         }
     }
-    if peer.name == "byte_palette.cot" {
-        // The palette that was handed to the other program.
-        for v in 0..=255u64 {
-            let painted = [7 * v % 256, (5 + 3 * v) % 256, 255 - v].map(|part| 256 * part);
-            let found = header::color(&peer.file, &h, v);
-            if found != Some(painted) {
-                return Err(format!("color {v} read as {found:?}, painted as {painted:?}"));
-            }
+    for value in probe::values() {
+        let [noted, _] = peer.colors(value);
+        let found = header::color(&peer.file, &h, value);
+        if found != noted {
+            return Err(format!("color {value} read as {found:?}, not {noted:?}"));
         }
     }
     Ok(())

@@ -192,14 +192,8 @@ fn header_of(picture: &Picture) -> Vec<u8> {
         "type {} blocks {blocks} pixels {} lines {} resolution {kind} {size} slo {} scn {} ctv {ctv} cte 0\n",
         picture.kind, picture.ppl, picture.nol, picture.slo, picture.scn
     );
-    for value in (0..=300).chain([65_535usize]) {
-        let part = |i: usize| {
-            picture.table.get(3 * value + i).map_or(value, |&byte| usize::from(byte)) * 256
-        };
-        let _ = match value {
-            0..=255 => writeln!(text, "{value}: {} {} {}", part(0), part(1), part(2)),
-            _ => writeln!(text, "{value}: refused 25"),
-        };
+    for value in probe::values() {
+        let _ = writeln!(text, "{}", probe::color_line(value, picture.colors(value)[0]));
     }
     text.into_bytes()
 }

@@ -111,10 +111,24 @@ fn slot(file: &[u8], entry: usize) -> u64 {
     word(file, TABLE + ENVIRON_V_ENTRY * entry)
 }
 
-/// The color of a pixel value in a file whose header was accepted; none is rejection 25.
-pub fn color(file: &[u8], header: &Header, value: u64) -> Option<[u64; 3]> {
+/// Red, green and blue of a value; none is rejection 25.
+pub type Color = Option<[u64; 3]>;
+
+/// How the color of a pixel value is found in a file whose header was accepted.
+pub type Coloring = fn(&[u8], &Header, u64) -> Color;
+
+/// By the table, and without one ink on paper or gray.
+pub fn color(file: &[u8], header: &Header, value: u64) -> Color {
     match header.ctv {
-        0 if value <= 255 => Some([256 * value; 3]),
+        0 => color_by_type(header.kind, value),
+        _ => plotter_color(file, header, value),
+    }
+}
+
+/// What the greyscale plotter is told: by the table, and without one gray in every type.
+pub fn plotter_color(file: &[u8], header: &Header, value: u64) -> Color {
+    match header.ctv {
+        0 => gray(value),
         1 if value <= 255 => {
             let at = TABLE + IGDS_ENTRY * value as usize;
             Some([0, 1, 2].map(|part| 256 * u64::from(file[at + part])))
@@ -126,4 +140,18 @@ pub fn color(file: &[u8], header: &Header, value: u64) -> Option<[u64; 3]> {
         }
         _ => None,
     }
+}
+
+/// Without a table: ink on paper in the bi-level types, gray in the others.
+pub fn color_by_type(kind: u64, value: u64) -> Color {
+    match (kind, value) {
+        (1 | 9, 0) => Some([65_535; 3]),
+        (1 | 9, 1) => Some([0; 3]),
+        (1 | 9, _) => None,
+        _ => gray(value),
+    }
+}
+
+pub fn gray(value: u64) -> Color {
+    (value <= 255).then_some([256 * value; 3])
 }

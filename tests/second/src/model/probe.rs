@@ -1,6 +1,6 @@
 //! What each program under test must print for its standard input.
 
-use super::header::{self, Header, Resolution};
+use super::header::{self, Color, Coloring, Header, Resolution};
 use super::long;
 use super::sheet::{self, Sheet};
 use super::turn;
@@ -25,11 +25,16 @@ pub const TURN_NUMBERS: usize = 28;
 pub const TURN_PIXELS: usize = 60_000;
 
 /// The values whose colors the header program prints.
-fn values() -> impl Iterator<Item = u64> {
+pub fn values() -> impl Iterator<Item = u64> {
     (0..=300).chain([65_535])
 }
 
 pub fn header(input: &[u8]) -> Vec<u8> {
+    header_by(header::color, input)
+}
+
+/// The same by a rule that may find other colors.
+pub fn header_by(by: Coloring, input: &[u8]) -> Vec<u8> {
     if input.len() > HEADER_LIMIT {
         return b"too long\n".to_vec();
     }
@@ -39,14 +44,18 @@ pub fn header(input: &[u8]) -> Vec<u8> {
     };
     let mut text = fields(&found);
     for value in values() {
-        match header::color(input, &found, value) {
-            Some([red, green, blue]) => {
-                line(&mut text, format_args!("{value}: {red} {green} {blue}"))
-            }
-            None => line(&mut text, format_args!("{value}: refused 25")),
-        }
+        let told = color_line(value, by(input, &found, value));
+        line(&mut text, format_args!("{told}"));
     }
     text.into_bytes()
+}
+
+/// What the header program prints of a value's color.
+pub fn color_line(value: u64, color: Color) -> String {
+    match color {
+        Some([red, green, blue]) => format!("{value}: {red} {green} {blue}"),
+        None => format!("{value}: refused 25"),
+    }
 }
 
 fn fields(h: &Header) -> String {
