@@ -23,6 +23,13 @@ extern "C" {
         answer: *mut u8,
         answer_len: usize,
     ) -> u32;
+    fn ingr_plotter_color(
+        file: *const u8,
+        file_len: usize,
+        value: u32,
+        answer: *mut u8,
+        answer_len: usize,
+    ) -> u32;
     fn ingr_turn(
         slo: u32,
         ppl: u32,
@@ -71,6 +78,7 @@ const LIBRARY: Calls = Calls {
     header: ingr_header,
     raster: ingr_raster,
     color: ingr_color,
+    plotter_color: ingr_plotter_color,
     turn: ingr_turn,
     turn_back: ingr_turn_back,
     write: ingr_write,

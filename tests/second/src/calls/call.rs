@@ -29,6 +29,24 @@ pub struct Done<T> {
     pub filled: Vec<T>,
 }
 
+/// The two functions for a color.
+#[derive(Clone, Copy, PartialEq)]
+pub enum ColorCall {
+    Color,
+    Plotter,
+}
+
+impl ColorCall {
+    pub const BOTH: [ColorCall; 2] = [ColorCall::Color, ColorCall::Plotter];
+
+    pub fn name(self) -> &'static str {
+        match self {
+            ColorCall::Color => "color",
+            ColorCall::Plotter => "plotter_color",
+        }
+    }
+}
+
 /// Lengths of the slices that the reader is lent.
 #[derive(Clone, Copy)]
 pub struct Lend {
@@ -65,6 +83,7 @@ impl Bench<'_> {
     pub fn color(
         &self,
         rng: &mut Rng,
+        call: ColorCall,
         file: &[u8],
         value: u32,
         answer: usize,
@@ -72,14 +91,22 @@ impl Bench<'_> {
         let mut given = self.holding(rng, "file", file);
         let mut answer = self.dirty(rng, "answer", answer);
         let (before, mut wanted) = (given.clone(), answer.clone());
-        let right = c::color(before.lent(), value, wanted.lent_mut());
+        let (function, right) = match call {
+            ColorCall::Color => {
+                (self.calls.color, c::color(before.lent(), value, wanted.lent_mut()))
+            }
+            ColorCall::Plotter => (
+                self.calls.plotter_color,
+                c::plotter_color(before.lent(), value, wanted.lent_mut()),
+            ),
+        };
         let (file, file_len) = given.raw();
         let (numbers, len) = answer.raw();
         // SAFETY: as above.
-        let result = unsafe { (self.calls.color)(file, file_len, value, numbers, len) };
+        let result = unsafe { function(file, file_len, value, numbers, len) };
         let held = [held(&before, &given), held(&wanted, &answer)];
-        let text = format_args!("value {value}");
-        let found = report::judge_call("ingr_color", text, [right, result], &held);
+        let (name, text) = (format!("ingr_{}", call.name()), format_args!("value {value}"));
+        let found = report::judge_call(&name, text, [right, result], &held);
         (Done { result, answer: answer.lent().to_vec(), filled: Vec::new() }, found)
     }
 

@@ -24,7 +24,8 @@ pub struct Calls {
         usize,
     ) -> u32,
     /// File, value, answer.
-    pub color: unsafe extern "C" fn(*const u8, usize, u32, *mut u8, usize) -> u32,
+    pub color: Coloring,
+    pub plotter_color: Coloring,
     /// SLO, PPL, NOL, the sheet's pixels, the upright ones.
     pub turn: Turn,
     /// SLO, PPL, NOL, the upright pixels, the sheet's.
@@ -50,4 +51,5 @@ pub struct Calls {
     pub transcode: unsafe extern "C" fn(*const u8, usize, *mut u8, usize, *mut u8, usize) -> u32,
 }
 
+type Coloring = unsafe extern "C" fn(*const u8, usize, u32, *mut u8, usize) -> u32;
 type Turn = unsafe extern "C" fn(u32, u32, u32, *const u16, usize, *mut u16, usize) -> u32;

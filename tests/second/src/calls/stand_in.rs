@@ -1194,7 +1194,7 @@ pub fn table(name: &str) -> Option<Calls> {
     let defect = DEFECTS.iter().find(|defect| defect.name == name)?;
     PLAYED.set(defect).ok()?;
     let turn = turn_upright;
-    Some(Calls { header, raster, color, turn, turn_back, write, transcode })
+    Some(Calls { header, raster, color, plotter_color, turn, turn_back, write, transcode })
 }
 
 fn played() -> &'static Change {
@@ -1233,6 +1233,16 @@ unsafe extern "C" fn color(
     touch("file", file, n);
     touch("answer", answer, len);
     result
+}
+
+unsafe extern "C" fn plotter_color(
+    file: *const u8,
+    n: usize,
+    value: u32,
+    answer: *mut u8,
+    len: usize,
+) -> u32 {
+    c::plotter_color(from_raw_parts(file, n), value, from_raw_parts_mut(answer, len))
 }
 
 unsafe extern "C" fn raster(

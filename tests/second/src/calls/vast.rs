@@ -78,7 +78,9 @@ pub fn check(bench: &Bench, reached: &mut Vec<String>) -> Found {
     found.and(long_moves(bench, &mut rng, bytes, reached))
 }
 
-const ANSWERS: [usize; 4] = [HEADER_ANSWER, COLOR_ANSWER, RASTER_ANSWER, MOVE_ANSWER];
+/// Of the calls that read a file.
+const CALLS: [&str; 5] = ["header", "color", "raster", "move", "plotter_color"];
+const ANSWERS: [usize; 5] = [HEADER_ANSWER, COLOR_ANSWER, RASTER_ANSWER, MOVE_ANSWER, COLOR_ANSWER];
 
 /// Bytes of the longest line there is.
 const LONGEST_LINE: usize = 4 + 2 * 65_535;
@@ -102,7 +104,7 @@ fn read(
     bench: &Bench,
     rng: &mut Rng,
     file: &[u8],
-    lengths: [usize; 4],
+    lengths: [usize; 5],
     reached: &mut Vec<String>,
 ) -> Found {
     let name = format!("file of {} bytes", file.len());
@@ -111,16 +113,16 @@ fn read(
     let mut pixels = Bed::<u8>::dirty(rng, false, "pixels", 40_000);
     let mut marks = Bed::<u8>::dirty(rng, false, "marks", 20_000);
     let mut out = Bed::<u8>::dirty(rng, false, "output", 2_000);
-    let [mut header, mut color, mut raster, mut moved] = answers.clone();
+    let [mut header, mut color, mut raster, mut moved, mut plotted] = answers.clone();
     let mut buffers = (pixels.clone(), marks.clone(), out.clone());
     let wanted = [
         c::header(file, header.lent_mut()),
         c::color(file, 7, color.lent_mut()),
         c::raster(file, buffers.0.lent_mut(), buffers.1.lent_mut(), raster.lent_mut()),
         c::transcode(file, buffers.2.lent_mut(), moved.lent_mut()),
+        c::plotter_color(file, 7, plotted.lent_mut()),
     ];
-    let calls = ["header", "color", "raster", "move"];
-    for (call, number) in calls.iter().zip(wanted).filter(|(_, number)| *number > 1) {
+    for (call, number) in CALLS.iter().zip(wanted).filter(|(_, number)| *number > 1) {
         reached.push(format!("{call} refused {number}"));
     }
     let raw = answers.each_mut().map(Bed::raw);
@@ -133,10 +135,11 @@ fn read(
             (bench.calls.color)(at, len, 7, raw[1].0, raw[1].1),
             (bench.calls.raster)(at, len, row, row_len, mark, mark_len, raw[2].0, raw[2].1),
             (bench.calls.transcode)(at, len, to, to_len, raw[3].0, raw[3].1),
+            (bench.calls.plotter_color)(at, len, 7, raw[4].0, raw[4].1),
         ]
     };
     let judge = |i: usize, held: &[_]| {
-        let call = format!("ingr_{}", calls[i]);
+        let call = format!("ingr_{}", CALLS[i]);
         report::judge_call(&call, format_args!("({name})"), [wanted[i], results[i]], held)
     };
     judge(0, &[held(&header, &answers[0])])
@@ -146,6 +149,7 @@ fn read(
             &[held(&buffers.0, &pixels), held(&buffers.1, &marks), held(&raster, &answers[2])],
         ))
         .and(judge(3, &[held(&buffers.2, &out), held(&moved, &answers[3])]))
+        .and(judge(4, &[held(&plotted, &answers[4])]))
 }
 
 /// The widest line of which no run is cut, its packed bytes, and so many lines that one more run makes

@@ -11,6 +11,7 @@ use super::sheet::{headed, sheet, some_bare, some_lines, Harm, TYPES};
 use super::turning::{faulty, some_turning, Turning, FAULTS};
 use super::{headers, picture, pictures, sheets, turnings};
 use crate::calls::call::Lend;
+use crate::color_edges::{color_edges, ColorEdge};
 use crate::edges::{self, Edge, MovedEdge, TurnedEdge, WrittenEdge};
 use crate::model::c::{COLOR_ANSWER, HEADER_ANSWER, MOVE_ANSWER, RASTER_ANSWER, WRITE_ANSWER};
 use crate::model::{long, word, MOST_LINES};
@@ -27,6 +28,7 @@ pub enum What {
     WrittenEdge(WrittenEdge),
     TurnedEdge(TurnedEdge),
     MovedEdge(MovedEdge),
+    ColorEdge(ColorEdge),
     LongEdge(LongEdge),
     Peer(Peer),
     /// With the outcome, where it is known without the model.
@@ -35,6 +37,7 @@ pub enum What {
         answer: usize,
         first: Option<String>,
     },
+    /// Both color calls.
     Color {
         file: Vec<u8>,
         value: u32,
@@ -165,6 +168,7 @@ fn known(extent: Extent, peers: Vec<Peer>) -> Vec<Case> {
         moved.retain(|edge| edge.file.len() <= SMALL_PICTURE);
     }
     all.extend(all_of(EDGES, moved.into_iter().map(What::MovedEdge)));
+    all.extend(all_of(EDGES, color_edges().into_iter().map(What::ColorEdge)));
     all.extend(all_of(OTHER, peers.into_iter().map(What::Peer)));
     all
 }
@@ -182,7 +186,7 @@ fn answers(rng: &mut Rng) -> Vec<What> {
             all.push(What::Header { file: file.clone(), answer, first: None });
         }
         for answer in 0..=COLOR_ANSWER + 9 {
-            for value in [1, 256] {
+            for value in [1, 2, 256] {
                 all.push(What::Color { file: file.clone(), value, answer });
             }
         }
@@ -300,11 +304,9 @@ fn fixed_headers(rng: &mut Rng, seed: u64) -> Vec<What> {
     all
 }
 
-/// Every value that a table may have, and such as 16 or 8 bits would take for one.
+/// Every value that a table may have, and such as 16 or 8 bits would take for one: all in sheets of
+/// some types, and those around each limit in every type with every kind of table.
 fn colors(rng: &mut Rng) -> Vec<What> {
-    let mut igds = Draft::plain(2, 3);
-    igds.igds(rng.bytes(768));
-    let mut environ_v = Draft::plain(3, 6);
     let mut entries = some_entries(rng, 200);
     for (entry, slot) in entries.iter_mut().zip([0, 65_535, 256, 255]) {
         entry[0] = slot;
@@ -312,17 +314,28 @@ fn colors(rng: &mut Rng) -> Vec<What> {
     // Others may have had these slots.
     entries.sort_by_key(|entry| entry[0]);
     entries.dedup_by_key(|entry| entry[0]);
-    environ_v.environ_v(&entries);
+    let known = entries.iter().map(|entry| u32::from(entry[0]));
+    let near = [0, 1, 2, 3, 254, 255, 65_534, 65_535, u32::MAX - 1, u32::MAX];
+    let wraps = [1 << 8, 1 << 16, 1 << 24, 1 << 31, 65_536 * 65_535];
+    let wrapped = wraps.into_iter().flat_map(|more| [0, 1, 2, 77, 255].map(|v| v + more));
+    let limits: Vec<u32> = near.into_iter().chain(wrapped).collect();
+    let slots = known.clone().chain(known.map(|slot| slot + 65_536));
+    let all_values: Vec<u32> = (0..=300).chain(limits.clone()).chain(slots).collect();
     let mut all = Vec::new();
-    for draft in [Draft::plain(9, 2), igds, environ_v] {
-        let file = draft.bytes();
-        let wraps = [1 << 8, 1 << 16, 1 << 24, 1 << 31, 65_536 * 65_535];
-        let known = entries.iter().map(|entry| u32::from(entry[0]));
-        let near = [255, 256, 65_534, 65_535, u32::MAX - 1, u32::MAX];
-        let wrapped = wraps.into_iter().flat_map(|more| [0, 1, 77, 255].map(|v| v + more));
-        let values = (0..=300).chain(near).chain(wrapped).chain(known.clone());
-        for value in values.chain(known.map(|slot| slot + 65_536)) {
-            all.push(What::Color { file: file.clone(), value, answer: COLOR_ANSWER });
+    for ctv in 0..=2 {
+        for kind in TYPES {
+            let mut draft = Draft { junk: Some(rng.next()), ..Draft::plain(kind, 6) };
+            match ctv {
+                1 => draft.igds(rng.bytes(768)),
+                2 => draft.environ_v(&entries),
+                _ => {}
+            }
+            let file = draft.bytes();
+            // In one type by each table, and in two of those that have none.
+            let whole = [(0, 9), (0, 10), (1, 2), (2, 3)].contains(&(ctv, kind));
+            for &value in if whole { &all_values } else { &limits } {
+                all.push(What::Color { file: file.clone(), value, answer: COLOR_ANSWER });
+            }
         }
     }
     all
@@ -559,7 +572,7 @@ pub fn some_length(rng: &mut Rng, needed: usize) -> usize {
 }
 
 /// A pixel value: one that may have a color, or one that only fewer bits would give one.
-fn some_value(rng: &mut Rng, file: &[u8]) -> u32 {
+pub fn some_value(rng: &mut Rng, file: &[u8]) -> u32 {
     let slot = |rng: &mut Rng| {
         let entries = if file.len() < 1_024 { 0 } else { (file.len() - 768) / 8 };
         let told = if file.len() < 540 { 0 } else { long(file, 536) as usize };
@@ -575,7 +588,7 @@ fn some_value(rng: &mut Rng, file: &[u8]) -> u32 {
         2 | 3 => slot(rng),
         4 => slot(rng) + 65_536 * rng.range(1, 65_535) as u32,
         5 => rng.below(256) as u32 + (1 << rng.range(8, 31)),
-        6 => rng.pick(&[0, 1, 255, 256, 257, 65_535, 65_536, 1 << 31, u32::MAX]),
+        6 => rng.pick(&[0, 1, 2, 255, 256, 257, 65_535, 65_536, 1 << 31, u32::MAX]),
         _ => rng.long(),
     }
 }

@@ -1,13 +1,13 @@
 //! Mode `calls`: the C functions, called in this process. Every case is one call, or a pair or a
 //! round trip of them, compared whole.
 
-use super::{rolls, starts};
-use crate::calls::call::{numbers, Bench, Done, Lend, Read};
+use super::{colors, rolls, starts};
+use crate::calls::call::{numbers, Bench, ColorCall, Done, Lend, Read};
 use crate::calls::{demand_3, vast, Calls};
 use crate::edges::{Edge, MovedEdge, TurnedEdge, WrittenEdge};
 use crate::gen::calls::{
-    fixed, needed as enough_for, random, some_lend, Case, Extent, What, BY_CHANCE, EDGES, FIXED,
-    OTHER, SMALL, VAST,
+    fixed, needed as enough_for, random, some_lend, some_value, Case, Extent, What, BY_CHANCE,
+    EDGES, FIXED, OTHER, SMALL, VAST,
 };
 use crate::gen::long::LongEdge;
 use crate::gen::long_calls;
@@ -16,9 +16,7 @@ use crate::gen::pairs::{Pair, EFFECTS};
 use crate::gen::picture::Picture;
 use crate::gen::sheet::{words, TYPES};
 use crate::gen::turning::Turning;
-use crate::model::c::{
-    self, COLOR_ANSWER, HEADER_ANSWER, MOVE_ANSWER, RASTER_ANSWER, WRITE_ANSWER,
-};
+use crate::model::c::{self, HEADER_ANSWER, MOVE_ANSWER, RASTER_ANSWER, WRITE_ANSWER};
 use crate::model::header::Resolution;
 use crate::model::probe::{LISTING_MARKS, LISTING_PIXELS};
 use crate::model::{long, word};
@@ -80,14 +78,18 @@ fn needed(extent: Extent, plan: &Plan) -> Needed {
     // These are reached by what is always run.
     let header = [11, 22, 29];
     add("header", &header);
-    add("color", &[&header[..], &[25]].concat());
+    let colors = ColorCall::BOTH.map(ColorCall::name);
+    for call in colors {
+        add(call, &[&header[..], &[25]].concat());
+    }
     add("raster", &[&header[..], &[23, 24]].concat());
     add("write", &[16, 26, 28, 29]);
     add("move", &[11, 16, 18, 22, 28, 29, 30, 41, 42]);
     for way in ["upright", "back"] {
         add(way, &[17, 19, 20, 23, 31]);
     }
-    reached.extend(["header accepted", "color by table 0", "answer 0", "answer 1"].map(Into::into));
+    reached.extend(["header accepted", "answer 0", "answer 1"].map(Into::into));
+    reached.extend(colors::all());
     reached.extend([1, 9].iter().flat_map(|kind| [0, 1].map(|scn| moved(*kind, scn))));
     for length in ["just enough", "more", "odd", "0"] {
         reached.push(format!("pixel slice {length}"));
@@ -107,23 +109,20 @@ fn needed(extent: Extent, plan: &Plan) -> Needed {
     let mut add = |call: &str, numbers: Vec<u32>| {
         reached.extend(numbers.iter().map(|number| format!("{call} refused {number}")));
     };
-    for call in ["header", "color", "raster"] {
+    for call in ["header", "raster"].into_iter().chain(colors) {
         add(call, (11..=22).collect());
     }
     add("write", vec![17, 18, 19, 20, 21, 23, 27]);
     add("move", (11..=22).chain([27]).collect());
     reached.extend(["comes back", "bytes after the last line dropped"].map(Into::into));
-    reached.extend([1, 2].map(|ctv| format!("color by table {ctv}")));
+    reached.extend(colors.map(|call| format!("{call} of a value above 65,535")));
     reached.extend((0..=10).map(|mark| format!("mark {mark} with headers")));
     reached.extend([0, 1, 7, 9, 10].map(|mark| format!("mark {mark} without")));
     reached.extend(starts::all());
     for kind in TYPES {
         reached.extend((0..=1).map(|scn| format!("written type {kind} scn {scn}")));
     }
-    reached.extend(
-        ["written with a table", "color of a value above 65,535", "written DRS above 65,535"]
-            .map(Into::into),
-    );
+    reached.extend(["written with a table", "written DRS above 65,535"].map(Into::into));
     for way in ["upright", "back"] {
         reached.extend((0..8).map(|slo| format!("trip of {way} {slo}")));
     }
@@ -136,8 +135,8 @@ fn needed(extent: Extent, plan: &Plan) -> Needed {
         reached.extend(rolls::all());
         reached.extend([0, 41, 42].map(long_move));
         families.push(VAST);
-        let calls = ["header", "color", "raster", "write", "move"];
-        reached.extend(calls.map(|c| format!("{c} refused 10")));
+        let calls = ["header", "raster", "write", "move"].into_iter().chain(colors);
+        reached.extend(calls.map(|call| format!("{call} refused 10")));
     }
     let often =
         if plan.count >= DEFAULT_COUNT as usize { vec![(CALLED, MOVES)] } else { Vec::new() };
@@ -151,6 +150,9 @@ fn check(bench: &Bench, rng: &mut Rng, case: &Case) -> Outcome {
         What::WrittenEdge(edge) => check_written_edge(bench, rng, edge, &mut reached),
         What::TurnedEdge(edge) => check_turned_edge(bench, rng, edge, &mut reached),
         What::MovedEdge(edge) => check_moved_edge(bench, rng, edge, &mut reached),
+        What::ColorEdge(edge) => {
+            colors::check_known(bench, rng, &edge.file, &edge.known, &mut reached).named(&edge.name)
+        }
         What::LongEdge(edge) => check_long_edge(bench, rng, edge, &mut reached),
         What::Peer(peer) => check_peer(bench, rng, peer, &mut reached),
         What::Header { file, answer, first } => {
@@ -162,15 +164,7 @@ fn check(bench: &Bench, rng: &mut Rng, case: &Case) -> Outcome {
             }
         }
         What::Color { file, value, answer } => {
-            let (done, found) = bench.color(rng, file, *value, *answer);
-            reached.push(match done.result {
-                0 => format!("color by table {}", word(file, 532)),
-                number => format!("color refused {number}"),
-            });
-            if done.result == 25 && *value > 65_535 {
-                reached.push("color of a value above 65,535".to_string());
-            }
-            found
+            colors::check(bench, rng, file, *value, *answer, &mut reached)
         }
         What::Raster { file, lend } => {
             let (read, found) = bench.raster(rng, file, *lend);
@@ -381,24 +375,16 @@ fn check_peer(bench: &Bench, rng: &mut Rng, peer: &Peer, reached: &mut Vec<Strin
         rows: peer.rows.iter().flatten().map(|&pixel| pixel as u16).collect(),
     };
     let mut found = found.and(also.then(|| known.compare(&read)));
-    if peer.name == "byte_palette.cot" {
-        // The palette that was handed to the other program.
-        for v in 0..=255u64 {
-            let painted = [7 * v % 256, (5 + 3 * v) % 256, 255 - v].map(|part| 256 * part);
-            let (done, also) = bench.color(rng, &peer.file, v as u32, COLOR_ANSWER);
-            found = found.and(also.then(|| match numbers(&done.answer, 3) == painted {
-                true => Ok(()),
-                false => Err(wrong(format!("color {v} is not as painted"), Vec::new())),
-            }));
-        }
-    }
+    let colors: Vec<_> = (0..=300).map(|value| (value, peer.colors(value.into()))).collect();
+    found = found.and(colors::check_known(bench, rng, &peer.file, &colors, reached));
     if note("DTC") == 9 {
-        // Its pixels as noted, in the other type too.
+        // Its pixels as noted, in the other type too, and its colors.
         let [back, moved] = trip(bench, rng, &peer.file, reached);
         found = found.and(back.1).and(moved.1);
         let (read, also) = bench.raster(rng, &moved.0, enough_for(&moved.0));
         let known = Known { end: moved.0.len() as u64, ..known };
         found = found.and(also.then(|| known.compare(&read)));
+        found = found.and(colors::check_known(bench, rng, &moved.0, &colors, reached));
         found = found.then(|| match back.0 == peer.file {
             true => Ok(()),
             false => Err(wrong("moved and moved back: other bytes", Vec::new())),
@@ -444,7 +430,7 @@ fn check_pair(bench: &Bench, rng: &mut Rng, pair: &Pair, reached: &mut Vec<Strin
     })
 }
 
-/// Writes a picture. One that is written is read back, with its header.
+/// Writes a picture. One that is written is read back, with its header and some colors.
 fn check_picture(
     bench: &Bench,
     rng: &mut Rng,
@@ -488,6 +474,11 @@ fn check_picture(
         true => Ok(()),
         false => Err(wrong("read back: other fields", vec![("file", file.to_vec())])),
     }));
+    // By the table that was given, or by the type.
+    let values = [rng.below(2) as u32, some_value(rng, file)];
+    let colors = values.map(|value| (value, picture.colors(value.into())));
+    let also = colors::check_known(bench, rng, file, &colors, reached).named("read back");
+    let found = found.and(also);
     (done, found)
 }
 
@@ -647,7 +638,7 @@ fn trip(
 
 /// Moves a sheet, and what came of it back. First what holds of the calls by themselves, whatever the
 /// model says: a sheet of type 1 or with the writer's bodies comes back as it was, but for what follows
-/// its last line; what came back of any other does; and all read alike.
+/// its last line; what came back of any other does; and all read alike and show the same colors.
 fn check_there_and_back(
     bench: &Bench,
     rng: &mut Rng,
@@ -682,6 +673,11 @@ fn check_there_and_back(
         if read.result != 0 || !pixels || numbers(read.answer.lent(), 2)[1] != of.len() as u64 {
             told = told.and(Err("it does not read as it did"));
         }
+    }
+    let (same, also) = colors::alike(bench, rng, [file, &there, &back], reached);
+    found = found.and(also);
+    if !same {
+        told = told.and(Err("it does not show the colors that it did"));
     }
     reached.push("comes back".to_string());
     if end < file.len() {

@@ -16,8 +16,8 @@ use std::thread;
 /// Milliseconds that a stand-in is given which runs on.
 const SHORT_PATIENCE: &str = "300";
 
-/// Calls that the right functions must pass; some three quarters of them are always made.
-const CALLS: &str = "22000";
+/// Cases that the right functions must pass; all but some two thousand are always run.
+const CALLS: &str = "24000";
 
 const RUNS_ON: &str = "runs on and was stopped";
 

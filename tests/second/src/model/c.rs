@@ -1,6 +1,6 @@
 //! The C functions: what each returns, and what it leaves in the slices that it is lent.
 
-use super::header::{self, Resolution};
+use super::header::{self, Coloring, Resolution};
 use super::sheet::{self, Sheet, Unpacking};
 use super::transcode;
 use super::turn;
@@ -39,6 +39,15 @@ pub fn header_numbers(h: &header::Header) -> [u64; 10] {
 }
 
 pub fn color(file: &[u8], value: u32, answer: &mut [u8]) -> u32 {
+    color_by(header::color, file, value, answer)
+}
+
+pub fn plotter_color(file: &[u8], value: u32, answer: &mut [u8]) -> u32 {
+    color_by(header::plotter_color, file, value, answer)
+}
+
+/// The same by a rule that may find other colors.
+pub fn color_by(by: Coloring, file: &[u8], value: u32, answer: &mut [u8]) -> u32 {
     if answer.len() < COLOR_ANSWER {
         return SHORT_ANSWER;
     }
@@ -46,7 +55,7 @@ pub fn color(file: &[u8], value: u32, answer: &mut [u8]) -> u32 {
         Err(number) => return number,
         Ok(found) => found,
     };
-    let Some(parts) = header::color(file, &found, u64::from(value)) else {
+    let Some(parts) = by(file, &found, u64::from(value)) else {
         return 25;
     };
     put_numbers(answer, &parts);
