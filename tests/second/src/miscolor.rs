@@ -45,6 +45,11 @@ pub fn ink_too<const VALUE: u64>(file: &[u8], header: &Header, value: u64) -> Co
     but_for(VALUE, color_by_type(9, 1), file, header, value)
 }
 
+/// Values that are bits in a byte.
+pub fn ink_of_byte(file: &[u8], header: &Header, value: u64) -> Color {
+    color(file, header, if is_inked(header) { value % 256 } else { value })
+}
+
 /// Ink on paper in one more type.
 pub fn inked_too<const KIND: u64>(file: &[u8], header: &Header, value: u64) -> Color {
     if (header.kind, header.ctv) == (KIND, 0) {
@@ -80,4 +85,22 @@ pub fn inked_over<const CTV: u64, const KIND: u64>(
 pub fn inked_without_slot(file: &[u8], header: &Header, value: u64) -> Color {
     let bit = matches!(header.kind, 1 | 9).then(|| color_by_type(header.kind, value));
     color(file, header, value).or(bit.flatten())
+}
+
+/// For the plotter too: one value as ink on paper, or as refused there.
+pub fn plotter_inked<const VALUE: u64>(file: &[u8], header: &Header, value: u64) -> Color {
+    if value == VALUE {
+        color(file, header, value)
+    } else {
+        plotter_color(file, header, value)
+    }
+}
+
+/// For the plotter too: ink on paper in one type.
+pub fn plotter_inked_in<const KIND: u64>(file: &[u8], header: &Header, value: u64) -> Color {
+    if header.kind == KIND {
+        color(file, header, value)
+    } else {
+        plotter_color(file, header, value)
+    }
 }

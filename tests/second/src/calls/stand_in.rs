@@ -1,18 +1,21 @@
 //! Stand-ins for the C functions, played by the model, right or with one defect. They show that
 //! the right ones pass and that each wrong one is found; nothing more, since they are the model.
 
+mod colors;
+
+use super::call::ColorCall;
 use super::Calls;
 use crate::gen::long_calls::{EDGES, LINE_COUNTS, MOVES, PAIRS, PICTURES};
 use crate::misnumber::{self, misnumber, Rule};
 use crate::misread::{self, misread, Misreading};
 use crate::model::c::{
-    self, Turn, Write, COLOR_ANSWER, HEADER_ANSWER, MOVE_ANSWER, RASTER_ANSWER, SHORT_ANSWER,
-    WRITE_ANSWER,
+    self, Turn, Write, HEADER_ANSWER, MOVE_ANSWER, RASTER_ANSWER, SHORT_ANSWER, WRITE_ANSWER,
 };
+use crate::model::header::Coloring;
 use crate::model::sheet::Unpacking;
 use crate::model::transcode::Manner;
 use crate::model::writer::Coding;
-use crate::model::{header, long, probe, sheet, turn, MOST_LINES};
+use crate::model::{long, probe, sheet, turn, MOST_LINES};
 use crate::{miscut, mismove, mispack};
 use std::slice::{from_raw_parts, from_raw_parts_mut};
 use std::sync::{Mutex, OnceLock};
@@ -20,6 +23,8 @@ use std::time::Duration;
 
 type Header = fn(&[u8], &mut [u8]) -> u32;
 type Color = fn(&[u8], u32, &mut [u8]) -> u32;
+/// A color call by the right one.
+type Miscall = fn(Color, &[u8], u32, &mut [u8]) -> u32;
 type Raster = fn(&[u8], &mut [u8], &mut [u8], &mut [u8]) -> u32;
 type Turning = fn(&Turn, &mut [u16]) -> u32;
 type Writing = fn(&Write, &mut [u8], &mut [u8]) -> u32;
@@ -39,7 +44,9 @@ enum Change {
     None,
     /// In the place of a right function.
     Header(Header),
-    Color(Color),
+    Color(ColorCall, Miscall),
+    /// To the colors that one of the calls finds.
+    Coloring(ColorCall, Coloring),
     Raster(Raster),
     Turn(Turning),
     Write(Writing),
@@ -78,7 +85,7 @@ const fn of_long(
 pub const RIGHT: &str = "right";
 
 /// Those whose moves there and back must show it by themselves, and what is told.
-pub const OF_RETURNS: [(&str, &str); 9] = [
+pub const OF_RETURNS: [(&str, &str); 13] = [
     ("move-renews-header", "other bytes come back"),
     ("move-renews-identifier", "other bytes come back"),
     ("move-stamps-header", "what came back comes back otherwise"),
@@ -88,6 +95,10 @@ pub const OF_RETURNS: [(&str, &str); 9] = [
     ("move-goes-word-by-word", "other bytes come back"),
     ("move-makes-black-white", "it does not read as it did"),
     ("move-refuses-all", "refused"),
+    ("no-ink-in-type-1", "it does not show the colors that it did"),
+    ("no-ink-in-type-9", "it does not show the colors that it did"),
+    ("plotter-inks-type-1", "it does not show the colors that it did"),
+    ("plotter-inks-type-9", "it does not show the colors that it did"),
 ];
 
 /// Those whose pairs must show it by themselves, and what is told.
@@ -110,20 +121,14 @@ pub const OF_PAIRS: [(&str, &str); 16] = [
     ("10-before-6", "not read by its own header and body"),
 ];
 
-pub const DEFECTS: [Defect; 154] = [
+/// All but those of the color calls.
+const DEFECTS: [Defect; 145] = [
     defect(RIGHT, "", Change::None),
     // 29 after another number, too early, too late.
     defect(
         "header-29-late",
         "ingr_header: result 11, 29 wanted",
         Change::Header(|file, answer| late([0; HEADER_ANSWER], answer, |to| c::header(file, to))),
-    ),
-    defect(
-        "color-29-late",
-        "ingr_color: result 25, 29 wanted",
-        Change::Color(|file, value, answer| {
-            late([0; COLOR_ANSWER], answer, |to| c::color(file, value, to))
-        }),
     ),
     defect(
         "raster-29-late",
@@ -156,13 +161,6 @@ pub const DEFECTS: [Defect; 154] = [
         }),
     ),
     defect(
-        "color-11-taken",
-        "ingr_color: result 0, 29 wanted",
-        Change::Color(|file, value, answer| {
-            one_less([0; COLOR_ANSWER], answer, |to| c::color(file, value, to))
-        }),
-    ),
-    defect(
         "raster-7-taken",
         "ingr_raster: result 0, 29 wanted",
         Change::Raster(|file, pixels, marks, answer| {
@@ -182,14 +180,6 @@ pub const DEFECTS: [Defect; 154] = [
         Change::Header(|file, answer| match answer.len() {
             HEADER_ANSWER => SHORT_ANSWER,
             _ => c::header(file, answer),
-        }),
-    ),
-    defect(
-        "color-12-refused",
-        "ingr_color: result 29, ",
-        Change::Color(|file, value, answer| match answer.len() {
-            COLOR_ANSWER => SHORT_ANSWER,
-            _ => c::color(file, value, answer),
         }),
     ),
     defect(
@@ -218,14 +208,6 @@ pub const DEFECTS: [Defect; 154] = [
         }),
     ),
     defect(
-        "color-answers-refused",
-        "ingr_color: answer: byte 0 of ",
-        Change::Color(|file, value, answer| match c::color(file, value, answer) {
-            25 => clear(answer, 25),
-            number => number,
-        }),
-    ),
-    defect(
         "raster-answers-refused",
         "ingr_raster: answer: byte 0 of ",
         Change::Raster(|file, pixels, marks, answer| {
@@ -248,13 +230,6 @@ pub const DEFECTS: [Defect; 154] = [
         "ingr_header: answer: byte 40 of ",
         Change::Header(|file, answer| {
             past(HEADER_ANSWER, answer, |answer| c::header(file, answer))
-        }),
-    ),
-    defect(
-        "color-past-numbers",
-        "ingr_color: answer: byte 12 of ",
-        Change::Color(|file, value, answer| {
-            past(COLOR_ANSWER, answer, |answer| c::color(file, value, answer))
         }),
     ),
     defect(
@@ -607,23 +582,6 @@ pub const DEFECTS: [Defect; 154] = [
             result
         }),
     ),
-    // Colors.
-    defect(
-        "value-narrowed",
-        "ingr_color: result 0, 25 wanted",
-        Change::Color(|file, value, answer| c::color(file, value % 65_536, answer)),
-    ),
-    defect(
-        "igds-257",
-        "ingr_color: answer: byte ",
-        Change::Color(|file, value, answer| {
-            let result = c::color(file, value, answer);
-            if result == 0 && header::read(file).is_ok_and(|h| h.ctv == 1) {
-                answer[0] = answer[1];
-            }
-            result
-        }),
-    ),
     // Turning.
     defect(
         "31-before-23",
@@ -853,14 +811,6 @@ pub const DEFECTS: [Defect; 154] = [
         Change::Header(|file, answer| up_to_65535(c::header(file, answer), lines_of(file))),
     ),
     of_long(
-        "color-65536-refused",
-        LINE_COUNTS,
-        "ingr_color: result 20, 0 wanted",
-        Change::Color(|file, value, answer| {
-            up_to_65535(c::color(file, value, answer), lines_of(file))
-        }),
-    ),
-    of_long(
         "raster-65536-refused",
         LINE_COUNTS,
         "ingr_raster: result 20, 1 wanted",
@@ -896,12 +846,6 @@ pub const DEFECTS: [Defect; 154] = [
         LINE_COUNTS,
         "ingr_header: result 0, 20 wanted",
         Change::Header(|file, answer| c::header(&with_one_more_taken(file), answer)),
-    ),
-    of_long(
-        "color-1000001-taken",
-        LINE_COUNTS,
-        "ingr_color: result 0, 20 wanted",
-        Change::Color(|file, value, answer| c::color(&with_one_more_taken(file), value, answer)),
     ),
     of_long(
         "raster-1000001-taken",
@@ -1036,6 +980,10 @@ pub const DEFECTS: [Defect; 154] = [
         Change::Touch("place", Some),
     ),
 ];
+
+pub fn defects() -> impl Iterator<Item = &'static Defect> {
+    DEFECTS.iter().chain(colors::all())
+}
 
 /// What is told of marks.
 const MARKS: &str = "ingr_raster: ";
@@ -1191,7 +1139,7 @@ static PLAYED: OnceLock<&'static Defect> = OnceLock::new();
 
 /// The table of a stand-in. One process plays one.
 pub fn table(name: &str) -> Option<Calls> {
-    let defect = DEFECTS.iter().find(|defect| defect.name == name)?;
+    let defect = defects().find(|defect| defect.name == name)?;
     PLAYED.set(defect).ok()?;
     let turn = turn_upright;
     Some(Calls { header, raster, color, plotter_color, turn, turn_back, write, transcode })
@@ -1228,10 +1176,14 @@ unsafe extern "C" fn color(
     answer: *mut u8,
     len: usize,
 ) -> u32 {
-    let call = if let Change::Color(call) = played() { *call } else { c::color };
-    let result = call(from_raw_parts(file, n), value, from_raw_parts_mut(answer, len));
-    touch("file", file, n);
-    touch("answer", answer, len);
+    let result = colored(
+        (ColorCall::Color, c::color),
+        from_raw_parts(file, n),
+        value,
+        from_raw_parts_mut(answer, len),
+    );
+    touch("colored", file, n);
+    touch("color", answer, len);
     result
 }
 
@@ -1242,7 +1194,23 @@ unsafe extern "C" fn plotter_color(
     answer: *mut u8,
     len: usize,
 ) -> u32 {
-    c::plotter_color(from_raw_parts(file, n), value, from_raw_parts_mut(answer, len))
+    let result = colored(
+        (ColorCall::Plotter, c::plotter_color),
+        from_raw_parts(file, n),
+        value,
+        from_raw_parts_mut(answer, len),
+    );
+    touch("plotted", file, n);
+    touch("plotter", answer, len);
+    result
+}
+
+fn colored((call, right): (ColorCall, Color), file: &[u8], value: u32, answer: &mut [u8]) -> u32 {
+    match played() {
+        Change::Color(of, wrong) if *of == call => wrong(right, file, value, answer),
+        Change::Coloring(of, wrong) if *of == call => c::color_by(*wrong, file, value, answer),
+        _ => right(file, value, answer),
+    }
 }
 
 unsafe extern "C" fn raster(

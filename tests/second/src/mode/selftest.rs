@@ -242,7 +242,7 @@ impl Bench {
             trial(right, right, &["--count", CALLS], Wanted::Passes),
             trial("right, small", right, &["--small"], Wanted::Passes),
         ];
-        for defect in stand_in::DEFECTS.iter().filter(|defect| defect.name != right) {
+        for defect in stand_in::defects().filter(|defect| defect.name != right) {
             let wanted = tells(&["case ", defect.told]);
             let words = ["--until-fault", "--patience", SHORT_PATIENCE];
             let words = if defect.told == "runs on" { &words } else { &words[..1] };
