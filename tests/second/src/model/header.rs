@@ -125,7 +125,7 @@ pub fn color(file: &[u8], header: &Header, value: u64) -> Color {
     }
 }
 
-/// What the greyscale plotter is told: by the table, and without one gray in every type.
+/// What the grayscale plotter is told: by the table, and without one gray in every type.
 pub fn plotter_color(file: &[u8], header: &Header, value: u64) -> Color {
     match header.ctv {
         0 => gray(value),

@@ -218,24 +218,14 @@ const INK: [Defect; 26] = [
         "ink-25-as-22",
         "ingr_color: result 22, 25 wanted",
         Change::Color(Color, |call, file, value, answer| {
-            let result = call(file, value, answer);
-            if value <= 255 {
-                instead_of_25(22, result)
-            } else {
-                result
-            }
+            ink_instead_of_25(22, call(file, value, answer), file, value)
         }),
     ),
     defect(
         "ink-25-as-0",
         TAKEN,
         Change::Color(Color, |call, file, value, answer| {
-            let result = call(file, value, answer);
-            if value <= 255 {
-                instead_of_25(0, result)
-            } else {
-                result
-            }
+            ink_instead_of_25(0, call(file, value, answer), file, value)
         }),
     ),
     defect("color-changes-file", "ingr_color: file: byte 0 of ", Change::Touch("colored", first)),
@@ -318,5 +308,13 @@ fn instead_of_25(other: u32, result: u32) -> u32 {
     match result {
         25 => other,
         number => number,
+    }
+}
+
+/// The same of no value but such as is a gray to the plotter.
+fn ink_instead_of_25(other: u32, result: u32, file: &[u8], value: u32) -> u32 {
+    match header_of(file) {
+        Some(header) if header.ctv == 0 && value <= 255 => instead_of_25(other, result),
+        _ => result,
     }
 }
