@@ -343,7 +343,7 @@ uint32_t ingr_write(uint32_t type, uint32_t ppl, uint32_t nol, uint32_t slo, uin
  * one that it had, but for W, words to follow, which its new body needs; line numbers are kept, to
  * whichever of 0 and 1 they roll. The bodies are those that ingr_write makes of the same pixels.
  * Bytes of the file after the last scanline are dropped. ingr_raster gives the same pixels of both
- * files.
+ * files, and ingr_color the same colors.
  *
  * Moved once more, a file of type 1 comes back byte for byte, and so does one of type 9 that has
  * the bodies of ingr_write, if nothing follows the last scanline and neither move is rejected.

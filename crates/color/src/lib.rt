@@ -1,4 +1,4 @@
-// The color of a pixel value in a file, by the file's color table.
+// The color of a pixel value in a file: by its color table, and without one ink on paper or a shade of gray.
 ghost use mathlib.Core.Path.{_≡_};
 ghost use mathlib.Core.Bool.{cond};
 ghost use Rattle.fields.specs.Fields.{fieldsOf};

@@ -1,6 +1,6 @@
 -- Paper 02, P7: the colors of the values 0, 1, 2, 255 and 256 in files of every data type with every kind of color table, as they are shown
 -- and for the plotter: one table under one statement, through the definitions that the promises of both calls cite.
-use Prim.Native.Nat.{ℕ, zero, suc, _-_, _*_}
+use Prim.Native.Nat.{ℕ, zero, suc, _-_}
 use mathlib.Core.Path.{_≡_}
 use mathlib.Core.Bool.{cond}
 use mathlib.Core.List.{List, [], _∷_, _++_, map}

@@ -8,7 +8,7 @@ use Rattle.units.specs.laws.Scan.{either}
 use Rattle.fields.specs.declared.Fields.{Fields}
 use Rattle.fields.specs.Fields.{fieldsOf}
 use Rattle.header.specs.Rejections.{rejectionTo22}
-use Rattle.color.specs.Color.{ColorNumbers, noColor, tableColor, inkColor, isInked, colorReading, plotterReading}
+use Rattle.color.specs.Color.{ColorNumbers, noColor, isInked, colorReading, plotterReading}
 use Rattle.color.specs.laws.Colors.{Both, both-rejected, by-plotter, by-ink, by-table}
 use Rattle.color.proofs.color_by.Statement.{statement}
 use Rattle.color.proofs.color_by.Tie as tie

@@ -1,30 +1,32 @@
 -- The two colors are one but for ink on paper.
-use Prim.Native.Nat.{ℕ, _≤_, _<_}
+use Prim.Native.Nat.{ℕ, _<_}
 use mathlib.Core.Logic.{_⊎_, inl, inr}
 use mathlib.Core.Path.{_≡_, refl, sym, _∙_, ap}
-use mathlib.Core.Bool.{Bool, true, false, cond, _&&_, _||_}
+use mathlib.Core.Bool.{Bool, true, false, cond, _||_}
 use mathlib.Core.List.{List}
 use native.Mathlib.Omega.{arith}
 use lib.Dec.{eqb, ltb}
-use borrow.Author.Tests.{eq-eqb, ne-eqb, lt-ltb, eqb-true, eqb-false, le-ltb, ltb-true, ltb-false}
+use borrow.Author.Tests.{ne-eqb, lt-ltb, eqb-true, eqb-false, le-ltb, ltb-true, ltb-false}
 use Rattle.units.specs.laws.Rules.{both-true}
 use Rattle.fields.specs.Fields.{fieldsOf}
 use Rattle.header.specs.Rejections.{rejectionTo22}
-use Rattle.color.specs.Color.{ColorNumbers, evenColor, noColor, scaled, grayColor, tableColor, isInked, inkColor, colorReading, plotterReading}
-use Rattle.color.specs.Statement.{OnPaper, TwoColors, ColorsDiffer}
+use Rattle.color.specs.Color.{ColorNumbers, evenColor, noColor, scaled, tableColor, isInked, inkColor, colorReading, plotterReading}
+use Rattle.color.specs.Statement.{OnPaper, ColorsDiffer}
 use Rattle.color.specs.laws.Colors.{both-rejected, by-plotter, by-ink, by-table}
 
+-- the test and its sentence
 is-inked : {t c : ℕ} → (t ≡ 1) ⊎ (t ≡ 9) → c ≡ 0 → isInked t c ≡ true
 is-inked (inl t) c = rw (t, c)
 is-inked (inr t) c = rw (t, c)
 
--- what the test says
-bilevel : (t : ℕ) → (eqb t 1 || eqb t 9) ≡ true → (t ≡ 1) ⊎ (t ≡ 9)
-bilevel t h = go (eqb t 1) refl
+inked-is : (t c : ℕ) → isInked t c ≡ true → ((t ≡ 1) ⊎ (t ≡ 9)) × (c ≡ 0)
+inked-is t c h =
+    let both = both-true (eqb c 0) (eqb t 1 || eqb t 9) h in
+    (one-of (eqb t 1) refl (both .1), eqb-true c 0 (both .0))
   where
-    go : (b : Bool) → eqb t 1 ≡ b → (t ≡ 1) ⊎ (t ≡ 9)
-    go true e = inl (eqb-true t 1 e)
-    go false e = inr (eqb-true t 9 (rw e at h))
+    one-of : (b : Bool) → eqb t 1 ≡ b → (b || eqb t 9) ≡ true → (t ≡ 1) ⊎ (t ≡ 9)
+    one-of true e h = inl (eqb-true t 1 e)
+    one-of false e h = inr (eqb-true t 9 h)
 
 -- ink is no gray
 not-gray : (v : ℕ) → inkColor v ≡ evenColor (scaled v) → ⊥
@@ -55,14 +57,11 @@ module _ (f : List ℕ) (v : ℕ) where
   elsewhere not = by-file (eqb (rejectionTo22 f) 0) refl
     where
       by-value : rejectionTo22 f ≡ 0 → isInked (fieldsOf f .dtc) (fieldsOf f .ctv) ≡ true → (b : Bool) → ltb 255 v ≡ b → colorReading f v ≡ plotterReading f v
-      by-value ok e b h =
-          let t = both-true (eqb (fieldsOf f .ctv) 0) (eqb (fieldsOf f .dtc) 1 || eqb (fieldsOf f .dtc) 9) e in
-          let none = eqb-true (fieldsOf f .ctv) 0 (t .0) in
-          go none (bilevel (fieldsOf f .dtc) (t .1)) b h
-        where
-          go : fieldsOf f .ctv ≡ 0 → (fieldsOf f .dtc ≡ 1) ⊎ (fieldsOf f .dtc ≡ 9) → (b : Bool) → ltb 255 v ≡ b → colorReading f v ≡ plotterReading f v
-          go none two true h = by-ink f v ok e ∙ neither none (ltb-true 255 v h) ∙ sym (by-plotter f v ok)
-          go none two false h = absurd (not (record { accepted = ok; bilevel = two; no-table = none; one-byte = ltb-false 255 v h }))
+      by-value ok e true h =
+          by-ink f v ok e ∙ neither (inked-is (fieldsOf f .dtc) (fieldsOf f .ctv) e .1) (ltb-true 255 v h) ∙ sym (by-plotter f v ok)
+      by-value ok e false h =
+          let i = inked-is (fieldsOf f .dtc) (fieldsOf f .ctv) e in
+          absurd (not (record { accepted = ok; bilevel = i .0; no-table = i .1; one-byte = ltb-false 255 v h }))
 
       by-type : rejectionTo22 f ≡ 0 → (b : Bool) → isInked (fieldsOf f .dtc) (fieldsOf f .ctv) ≡ b → colorReading f v ≡ plotterReading f v
       by-type ok true e = by-value ok e (ltb 255 v) refl

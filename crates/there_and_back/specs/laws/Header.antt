@@ -1,24 +1,24 @@
 -- The header of a transcoded file: every byte is the old one but for the data type, so its fields are, it is not rejected, and it has the
 -- same colors: both types are ink on paper.
 use Prim.Native.Nat.{ℕ, _+_, _*_, _≤_, _<_}
-use mathlib.Core.Path.{_≡_, refl, sym, _∙_, ap, ap₂, subst⁻¹}
+use mathlib.Core.Path.{_≡_, refl, _∙_, ap, ap₂, subst⁻¹}
 use mathlib.Core.Bool.{true}
 use mathlib.Core.Logic.{_⊎_, inl, inr}
 use mathlib.Core.List.{List, _++_}
 use native.Mathlib.Omega.{arith}
 use lib.ListN.{length, getD, take, length-append, List·getD-append}
 use lib.Seq.{length-take-le, length-sets, getD-take}
-use Rattle.units.specs.Counts.{bytesOfBlocks, bytesIn}
+use Rattle.units.specs.Counts.{bytesIn}
 use Rattle.units.specs.LittleEndian.{u16At, u32At}
-use Rattle.units.specs.Rules.{Rule, first}
+use Rattle.units.specs.Rules.{first}
 use Rattle.units.specs.Words.{twoBytes}
 use Rattle.units.specs.laws.Over.{sets-misses}
 use Rattle.units.specs.laws.Rules.{both-none, first-later}
-use Rattle.codec.specs.Table.{codecOf, isDataType}
+use Rattle.codec.specs.Table.{isDataType}
 use Rattle.fields.specs.declared.Fields.{Fields}
-use Rattle.fields.specs.Fields.{fieldsOf, headerBlocks}
+use Rattle.fields.specs.Fields.{fieldsOf}
 use Rattle.limits.specs.laws.Limits.{none-rejects}
-use Rattle.header.specs.Rejections.{frameRules, fieldRules, colorTableRules, rulesTo22, rejectionTo22}
+use Rattle.header.specs.Rejections.{frameRules, fieldRules, colorTableRules, rejectionTo22}
 use Rattle.header.specs.laws.Accepted.{Accepted, accepted}
 use Rattle.color.specs.Color.{isInked, colorReading, plotterReading}
 use Rattle.layout.specs.Chain.{sheetOf}
