@@ -1,6 +1,7 @@
 /*
  * The least that a viewer does: map a file, ask for its header, lend the buffers, read it, look at
- * the marks, ask for a color. Exit status: 0 every scanline is good, 1 not every one, 2 not read.
+ * the marks, ask for the color of a pixel of a good line. Exit status: 0 every scanline is good, 1
+ * not every one, 2 not read.
  */
 #define _POSIX_C_SOURCE 200809L
 #include <fcntl.h>
@@ -33,7 +34,10 @@ static uint32_t view(const uint8_t *file, size_t size, uint8_t *pixels, uint8_t 
         if (marks[line] != INGR_MARK_GOOD)
             printf("line %u refused: %s\n", line + 1, REASONS[marks[line]]);
     const uint32_t value = INGR_PIXEL(pixels, (size_t)(nol / 2) * ppl + ppl / 2);
-    if (ingr_color(file, size, value, color, sizeof color) == 0)
+    /* A refused line is zeros, which can have the color of blank paper: it must not be shown as that. */
+    if (marks[nol / 2] != INGR_MARK_GOOD)
+        printf("middle pixel not shown: line %u is refused\n", nol / 2 + 1);
+    else if (ingr_color(file, size, value, color, sizeof color) == 0)
         printf("middle pixel %u, color %u %u %u\n", value, INGR_NUMBER(color, INGR_COLOR_RED),
                INGR_NUMBER(color, INGR_COLOR_GREEN), INGR_NUMBER(color, INGR_COLOR_BLUE));
     else

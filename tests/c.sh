@@ -94,12 +94,12 @@ expected() {
         NR == 1 { ppl = $4; nol = $6; answer = $8; print ppl " x " nol ", " $10 " good"; next }
         { mark = $2; sub(":", "", mark) }
         mark > 0 { print "line " $1 " refused: " reason[mark] }
-        $1 == int(nol / 2) + 1 { value = $(3 + int(ppl / 2)) }
+        $1 == int(nol / 2) + 1 { value = $(3 + int(ppl / 2)); middle = mark; at = $1 }
         END {
             if (ppl == "") exit
             # The second program lists colors up to 300. Above that there is none without an Environ-V table, and no sample has one.
             has = value in color && color[value] !~ /refused/
-            print "middle pixel " value (has ? ", color " color[value] : ", no color")
+            print "middle pixel " (middle > 0 ? "not shown: line " at " is refused" : value (has ? ", color " color[value] : ", no color"))
             print "status " answer
         }' "$room/listing"
 }
