@@ -1,5 +1,5 @@
--- Paper 02, P2 and the requests that add a call: the calls of the C library, each as its result and its numbers, and how many bytes these take. They are those of the
--- calls of the library itself.
+-- Paper 02, P2, P5 and P7: the calls of the C library, each as its result and its numbers, and how many bytes these take. They are those
+-- of the calls of the library itself.
 use Prim.Native.Nat.{ℕ}
 use mathlib.Core.List.{List, [], _∷_}
 use Rattle.header.specs.Reading.{HeaderNumbers, headerReading}

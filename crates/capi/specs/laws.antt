@@ -1,3 +1,4 @@
+pub mod Coloring
 pub mod Reading
 pub mod Rejections
 pub mod Sizes

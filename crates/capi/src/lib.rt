@@ -20,7 +20,6 @@ ghost use Rattle.encode_raster.specs.Answer.{picture};
 ghost use Rattle.transcode.specs.Transcoding.{outTranscoded};
 ghost use Rattle.answers.specs.Answer.{numberBytes, resultOf, answerAfter, unlessShort};
 ghost use Rattle.capi.specs.Calls.{headerSize, headerCall, cHeader, rasterSize, cRaster, colorSize, colorCall, cColor, cPlotterColor, writeSize, writeCall, cWrite, cMove};
-ghost use Rattle.capi.specs.laws.Rejections.{From10};
 ghost use Rattle.capi.specs.laws.Writing.{Told};
 use answers::store_numbers;
 use color::ColorAnswer;
@@ -138,7 +137,7 @@ pub extern "C" fn ingr_plotter_color(file: &[u8], value: u32, answer: &mut [u8])
 // The result of a call for a color. Where there is one its parts are stored.
 fn store_found(found: ColorAnswer, answer: &mut [u8]) -> u32
     requires { ⌜ colorSize ≤ length (now answer) ⌝ }
-    requires { ⌜ From10 (colorNumbers found .number) ⌝ }
+    requires { ⌜ ((colorNumbers found .number ≡ 0 → ⊥) → 10 ≤ colorNumbers found .number) ⌝ }
     ensures { λ r. ⌜ r ≡ resultOf colorSize (colorCall (colorNumbers found)) (now (answer .entry)) ⌝ }
     ensures { λ _. ⌜ now (answer .exit) ≡ answerAfter colorSize (colorCall (colorNumbers found)) (now (answer .entry)) ⌝ }
 {

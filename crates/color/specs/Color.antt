@@ -65,6 +65,7 @@ isInked dtc ctv = eqb ctv 0 && (eqb dtc 1 || eqb dtc 9)
 abbrev pub inkColor : ℕ → ColorNumbers
 inkColor v = cond (eqb v 0) (evenColor 65535) (cond (eqb v 1) (evenColor 0) (noColor 25))
 
+-- what P7 leaves as it was goes by the table
 abbrev pub shownColor : List ℕ → ℕ → ColorNumbers
 shownColor f v = cond (isInked (fieldsOf f .dtc) (fieldsOf f .ctv)) (inkColor v) (tableColor f v)
 

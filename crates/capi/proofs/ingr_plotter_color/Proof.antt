@@ -1,9 +1,8 @@
-use mathlib.Core.Path.{subst, subst⁻¹}
 use native.Mathlib.Omega.{arith}
-use Rattle.color.specs.Color.{ColorNumbers}
-use Rattle.answers.specs.laws.Call.{Answered, too-short}
-use Rattle.capi.specs.Calls.{colorSize, colorCall, cPlotterColor}
-use Rattle.capi.specs.laws.Rejections.{From10, plotter-from}
+use Rattle.answers.specs.laws.Call.{too-short}
+use Rattle.capi.specs.Calls.{colorSize, cPlotterColor}
+use Rattle.capi.specs.laws.Rejections.{plotter-from}
+use Rattle.capi.specs.laws.Coloring.{numbered, colored}
 use borrow.Author.Needs.{needs}
 use Rattle.capi.proofs.ingr_plotter_color.Statement.{statement}
 use Rattle.capi.proofs.ingr_plotter_color.Tie as tie
@@ -16,17 +15,14 @@ returns c =
 store-found-requires : tie.Need-store-found-requires
 store-found-requires c κs =
     let o = c .before in
-    let a = o .before .before .before .before .args in (
-      omega (arith, o .before .if1 .left),
-      subst⁻¹ (λ (x : ColorNumbers). From10 (x .number)) (o .plotter-color-of .ensures) (plotter-from (a .file .now) (a .value)),
-    )
+    let a = o .before .before .before .before .args in
+    (omega (arith, o .before .if1 .left), numbered (o .plotter-color-of .ensures) (plotter-from (a .file .now) (a .value)))
 
 returns-2 : tie.Need-returns-2
 returns-2 c =
     let d = c .before .before in
     let o = d .before .before in
-    let answer = o .before .before .before .before .args .answer .now in
-    subst (λ (x : ColorNumbers). Answered colorSize (colorCall x) answer (d .store-found .result) (d .store-found .last .1 .0)) (o .plotter-color-of .ensures) (d .store-found .ensures)
+    colored (o .plotter-color-of .ensures) (o .before .before .before .before .args .answer .now) (d .store-found .ensures)
 
 pub ingr-plotter-color-spec : {M : Type 1} → statement M
 ingr-plotter-color-spec = tie.close (tie.spec returns (λ c κs. search needs) store-found-requires (λ c. search needs) returns-2)

@@ -14,7 +14,7 @@ use Rattle.header.specs.Reading.{HeaderNumbers, rejectedNumbers, fieldNumbers, 
 use Rattle.header.specs.laws.Accepted.{accepted}
 use Rattle.color.specs.Color.{ColorNumbers, noColor, entryColor, tableColor, isInked, colorReading, plotterReading}
 
-abbrev pub From10 : ℕ → Type 0
+abbrev From10 : ℕ → Type 0
 From10 n = (n ≡ 0 → ⊥) → 10 ≤ n
 
 file-from : (f : List ℕ) → From10 (rejectionTo22 f)
@@ -34,7 +34,7 @@ header-from f {n} = go (eqb (rejectionTo22 f) 0) refl
         rw s (file-from f (eqb-false (rejectionTo22 f) 0 t))
 
 -- of a color: the file's numbers, and 25
-abbrev Numbered : ColorNumbers → Type 0
+abbrev pub Numbered : ColorNumbers → Type 0
 Numbered c = From10 (c .number)
 
 none : Numbered (noColor 25)

@@ -1,5 +1,5 @@
 -- The colors of a written file are those of the table, or without one grays, and ink on paper in types 1 and 9.
-use Prim.Native.Nat.{ℕ, _+_, _*_, _≤_, _<_}
+use Prim.Native.Nat.{ℕ, _+_, _*_, _<_}
 use mathlib.Core.Path.{_≡_, refl, sym, _∙_, ap}
 use mathlib.Core.Bool.{Bool, true, false, cond}
 use mathlib.Core.List.{List, _++_}
@@ -7,11 +7,12 @@ use native.Mathlib.Omega.{arith}
 use lib.ListN.{length, getD, List·getD-append}
 use lib.Seq.{getD-append-add}
 use lib.Dec.{eqb, ltb}
-use borrow.Author.Tests.{eqb-true, ltb-false}
+use borrow.Author.Tests.{eqb-true}
 use Rattle.units.specs.LittleEndian.{byteAt}
 use Rattle.fields.specs.declared.Fields.{Fields}
 use Rattle.fields.specs.Fields.{fieldsOf}
 use Rattle.color.specs.Color.{scaled, color, noColor, grayColor, igdsColor, environColor, tableColor, isInked, inkColor, colorReading, plotterReading}
+use Rattle.color.specs.laws.Colors.{igds-is}
 use Rattle.encode_header.specs.Picture.{Picture}
 use Rattle.encode_header.specs.Header.{tableArea}
 use Rattle.encode_raster.specs.File.{linesOf, fileBytes}
@@ -34,24 +35,14 @@ area-byte i n h =
 abbrev Bytes768 : List ℕ → List ℕ → Type 0
 Bytes768 f table = (n : ℕ) → n < 768 → byteAt f (768 + n) ≡ getD table n 0
 
-igds-is : (f table : List ℕ) → Bytes768 f table → (v : ℕ)
+igds-of : (f table : List ℕ) → Bytes768 f table → (v : ℕ)
     → igdsColor f v
     ≡ cond (ltb 255 v) (noColor 25) (color (scaled (getD table (3 * v) 0)) (scaled (getD table (3 * v + 1) 0)) (scaled (getD table (3 * v + 2) 0)))
-igds-is f table h v = go (ltb 255 v) refl
-  where
-    go : (t : Bool) → ltb 255 v ≡ t
-        → cond t (noColor 25)
-        (color (scaled (byteAt f (768 + 3 * v))) (scaled (byteAt f (768 + 3 * v + 1))) (scaled (byteAt f (768 + 3 * v + 2))))
-        ≡ cond t (noColor 25) (color (scaled (getD table (3 * v) 0)) (scaled (getD table (3 * v + 1) 0)) (scaled (getD table (3 * v + 2) 0)))
-    go true e = refl
-    go false e =
-        let l : v ≤ 255 = ltb-false 255 v e in
-        let s : 768 + 3 * v + 1 ≡ 768 + (3 * v + 1) = omega arith in
-        let u : 768 + 3 * v + 2 ≡ 768 + (3 * v + 2) = omega arith in
-        let red = h (3 * v) (omega arith) in
-        let green = ap (byteAt f) s ∙ h (3 * v + 1) (omega arith) in
-        let blue = ap (byteAt f) u ∙ h (3 * v + 2) (omega arith) in
-        λ j. color (scaled (red j)) (scaled (green j)) (scaled (blue j))
+igds-of f table h v =
+    let s : 768 + 3 * v + 1 ≡ 768 + (3 * v + 1) = omega arith in
+    let u : 768 + 3 * v + 2 ≡ 768 + (3 * v + 2) = omega arith in
+    igds-is f v (getD table (3 * v) 0) (getD table (3 * v + 1) 0) (getD table (3 * v + 2) 0)
+    (λ l. (h (3 * v) (omega arith), (ap (byteAt f) s ∙ h (3 * v + 1) (omega arith), ap (byteAt f) u ∙ h (3 * v + 2) (omega arith))))
 
 -- by whether there is one
 color-if : (f table : List ℕ) (ctv v : ℕ) (none : Bool) → ctv ≡ ctvIf none → (none ≡ false → Bytes768 f table)
@@ -59,7 +50,7 @@ color-if : (f table : List ℕ) (ctv v : ℕ) (none : Bool) → ctv ≡ ctvIf no
     ≡ cond none (grayColor v)
     (cond (ltb 255 v) (noColor 25) (color (scaled (getD table (3 * v) 0)) (scaled (getD table (3 * v + 1) 0)) (scaled (getD table (3 * v + 2) 0))))
 color-if f table ctv v true e h = rw e
-color-if f table ctv v false e h = rw e (igds-is f table (h refl) v)
+color-if f table ctv v false e h = rw e (igds-of f table (h refl) v)
 
 table-bytes : (i : Picture) → Given i → eqb (length (i .table)) 0 ≡ false → Bytes768 (fileBytes i) (i .table)
 table-bytes i g e n h =

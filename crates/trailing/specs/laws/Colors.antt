@@ -6,13 +6,14 @@ use mathlib.Core.Bool.{Bool, true, false, cond}
 use mathlib.Core.List.{List}
 use native.Mathlib.Omega.{arith}
 use lib.ListN.{getD}
-use lib.Dec.{eqb, ltb}
-use borrow.Author.Tests.{ltb-false, eqb-true, eqb-false}
+use lib.Dec.{eqb}
+use borrow.Author.Tests.{eqb-true, eqb-false}
 use Rattle.units.specs.LittleEndian.{byteAt, u16At}
 use Rattle.fields.specs.Fields.{fieldsOf}
 use Rattle.header.specs.Rejections.{entryStart, slotAt, rejectionTo22}
 use Rattle.header.specs.laws.Accepted.{Accepted, accepted}
-use Rattle.color.specs.Color.{scaled, color, noColor, grayColor, igdsColor, entryColor, environColor, tableColor, isInked, inkColor, colorReading, plotterReading}
+use Rattle.color.specs.Color.{noColor, grayColor, igdsColor, entryColor, environColor, tableColor, isInked, inkColor, colorReading, plotterReading}
+use Rattle.color.specs.laws.Colors.{igds-is}
 use Rattle.layout.specs.Chain.{sheetOf}
 use Rattle.isolation.specs.laws.Same.{same-scan}
 use Rattle.isolation.specs.laws.Headers.{same-slot}
@@ -24,20 +25,11 @@ module _ (f g : List ℕ) (ok : rejectionTo22 f ≡ 0) (ok₂ : rejectionTo22 g 
   a = accepted f ok
 
   same-igds : fieldsOf f .ctv ≡ 1 → igdsColor g v ≡ igdsColor f v
-  same-igds one = go (ltb 255 v) refl
-    where
-      go : (t : Bool) → ltb 255 v ≡ t
-          → cond t (noColor 25) (color (scaled (byteAt g (768 + 3 * v))) (scaled (byteAt g (768 + 3 * v + 1))) (scaled (byteAt g (768 + 3 * v + 2))))
-          ≡ cond t (noColor 25) (color (scaled (byteAt f (768 + 3 * v))) (scaled (byteAt f (768 + 3 * v + 1))) (scaled (byteAt f (768 + 3 * v + 2))))
-      go true e = refl
-      go false e =
-          let l : v ≤ 255 = ltb-false 255 v e in
-          let b = a .igds one in
-          rw (
-            same (768 + 3 * v) (omega arith) (omega arith),
-            same (768 + 3 * v + 1) (omega arith) (omega arith),
-            same (768 + 3 * v + 2) (omega arith) (omega arith),
-          )
+  same-igds one =
+      igds-is g v (byteAt f (768 + 3 * v)) (byteAt f (768 + 3 * v + 1)) (byteAt f (768 + 3 * v + 2))
+      (λ l.
+      let b = a .igds one in
+      (same (768 + 3 * v) (omega arith) (omega arith), (same (768 + 3 * v + 1) (omega arith) (omega arith), same (768 + 3 * v + 2) (omega arith) (omega arith))))
 
   word : (at : ℕ) → 768 ≤ at → at + 2 ≤ sheetOf f .dataStart → u16At g at ≡ u16At f at
   unfolding u16At

@@ -1176,12 +1176,8 @@ unsafe extern "C" fn color(
     answer: *mut u8,
     len: usize,
 ) -> u32 {
-    let result = colored(
-        (ColorCall::Color, c::color),
-        from_raw_parts(file, n),
-        value,
-        from_raw_parts_mut(answer, len),
-    );
+    let (given, numbers) = (from_raw_parts(file, n), from_raw_parts_mut(answer, len));
+    let result = colored((ColorCall::Color, c::color), given, value, numbers);
     touch("colored", file, n);
     touch("color", answer, len);
     result
@@ -1194,12 +1190,8 @@ unsafe extern "C" fn plotter_color(
     answer: *mut u8,
     len: usize,
 ) -> u32 {
-    let result = colored(
-        (ColorCall::Plotter, c::plotter_color),
-        from_raw_parts(file, n),
-        value,
-        from_raw_parts_mut(answer, len),
-    );
+    let (given, numbers) = (from_raw_parts(file, n), from_raw_parts_mut(answer, len));
+    let result = colored((ColorCall::Plotter, c::plotter_color), given, value, numbers);
     touch("plotted", file, n);
     touch("plotter", answer, len);
     result
