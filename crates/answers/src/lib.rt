@@ -1,4 +1,6 @@
 // The numbers of an answer, stored in bytes.
+#![tactic(auto)]
+
 ghost use Rattle.std.specs.Prelude.{◌≡◌};
 ghost use Rattle.units.specs.Over.{over};
 ghost use Rattle.answers.specs.Answer.{number_bytes};

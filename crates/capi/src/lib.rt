@@ -4,6 +4,8 @@
 // Each function is one call of the library, on numbers and slices. The result is the paper's answer number. Its other numbers are
 // stored in the answer slice, four bytes each, low byte first. A rejected call changes no byte that it is lent, and the first rejection
 // is 29, for an answer slice that is too short.
+#![tactic(auto)]
+
 ghost use Rattle.std.specs.Prelude.{◌≡◌, ◌%◌, ◌≤◌, length};
 ghost use Rattle.units.specs.Over.{over};
 ghost use Rattle.header.specs.Resolution.{resolution_numbers};
@@ -18,7 +20,7 @@ ghost use Rattle.encode_raster.specs.Answer.{picture};
 ghost use Rattle.transcode.specs.Transcoding.{out_transcoded};
 ghost use Rattle.answers.specs.Answer.{number_bytes, result_of, answer_after, unless_short};
 ghost use Rattle.capi.specs.Calls.{header_size, header_call, c_header, raster_size, c_raster, color_size, color_call, c_color, c_plotter_color, write_size, write_call, c_write, c_move};
-ghost use Rattle.capi.specs.laws.Writing.{Told};
+ghost use Rattle.capi.proofs.Laws.Writing.{Told};
 
 use answers::store_numbers;
 use color::{ColorAnswer, Rgb, color_of, plotter_color_of};

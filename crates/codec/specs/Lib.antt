@@ -8,4 +8,3 @@ pub mod Leading
 pub mod Former
 pub mod Table
 pub mod ZeroRuns
-pub mod laws

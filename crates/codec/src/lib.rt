@@ -2,6 +2,8 @@
 // when it is written.
 //
 // Definitions and laws, in specs/, and the answer of a reader of scanlines without headers.
+#![tactic(auto)]
+
 ghost use Rattle.std.specs.Prelude.{◌≡◌};
 ghost use Rattle.codec.specs.Codec as codecs;
 
@@ -9,7 +11,7 @@ use units::Bytes;
 
 // What a scanline without a header takes of the bytes that are left: its status, whether it and all after it are lost,
 // and how many bytes it takes, 0 where it is lost.
-#[derive(Drop)]
+#[derive(Clone, Copy)]
 pub struct Extent {
     pub status: u8,
     pub lost: bool,

@@ -1,3 +1,2 @@
 pub mod Color
 pub mod Statement
-pub mod laws

@@ -1,4 +1,6 @@
 // The color of a pixel value in a file: by its color table, and without one ink on paper or a shade of gray.
+#![tactic(auto)]
+
 ghost use Rattle.std.specs.Prelude.{◌≡◌, cond};
 ghost use Rattle.fields.specs.Fields.{fields_of};
 ghost use Rattle.header.specs.Rejections.{rejection_to22};
@@ -8,7 +10,7 @@ use fields::{Fields, fields_of};
 use header::{entry_start, rejection_to_22, slot_at};
 use units::{byte_at, u16_at};
 
-#[derive(Drop)]
+#[derive(Clone, Copy)]
 pub struct Rgb {
     pub red: u16,
     pub green: u16,
@@ -16,7 +18,7 @@ pub struct Rgb {
 }
 
 // A rejection has its number in the table of rejections: a file's, or 25 where the value has no color.
-#[derive(Drop)]
+#[derive(Clone, Copy)]
 pub enum ColorAnswer {
     Rejected(u16),
     Found(Rgb),

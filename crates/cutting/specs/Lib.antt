@@ -1,4 +1,3 @@
 pub mod Pieces
 pub mod Rule
 pub mod Table
-pub mod laws

@@ -4,6 +4,8 @@
 // A body is checked whole before a pixel is stored. Its status is the paper's mark, 0 where it holds a row's pixels. There is one
 // check for a body of known length, within a scanline that has a header, and one for a scanline without a header, which says
 // what it takes of the bytes that are left. Painting comes after either: it stores pixels of 16 bits, or two bytes for each.
+#![tactic(auto)]
+
 mod by_type;
 mod byte_pixels;
 mod word_pixels;

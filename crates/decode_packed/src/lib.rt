@@ -1,6 +1,8 @@
 // The bodies of type 1, read: sixteen pixels to a word, the leftmost in the highest bit.
 //
 // A body is checked whole, by `packed_status` or `packed_extent`, before a pixel is stored.
+#![tactic(auto)]
+
 ghost use Rattle.std.specs.Prelude.{◌≡◌, length};
 ghost use Rattle.units.specs.Over.{over, zeros};
 ghost use Rattle.units.specs.Rules.{first};

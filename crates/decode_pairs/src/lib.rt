@@ -1,6 +1,8 @@
 // The bodies of type 10, read: pairs of words, value then count.
 //
 // A body is checked whole, by `pairs_status` or `pairs_extent`, before a pixel is stored.
+#![tactic(auto)]
+
 ghost use Rattle.std.specs.Prelude.{◌≡◌, length};
 ghost use Rattle.units.specs.Over.{over, zeros};
 ghost use Rattle.units.specs.Rules.{first};

@@ -2,13 +2,15 @@
 //
 // A rejected call changes nothing. Otherwise every row is stored in its own place, every scanline has its status, the
 // paper's mark, and what lies past the last row or status is left as it was.
+#![tactic(auto)]
+
 ghost use Rattle.std.specs.Prelude.{◌≡◌, ◌≤◌, ◌<◌, length};
 ghost use Rattle.limits.specs.Limits.{most_lines};
 ghost use Rattle.layout.specs.Chain.{raster_of};
 ghost use Rattle.layout.specs.Reading.{rejected_raster, raster_rejection, raster_reading, pixels_after, marks_after};
 ghost use Rattle.decode_raster.specs.Answer.{raster_numbers};
-ghost use Rattle.decode_raster.specs.laws.Answer.{as_pixels, Fits, ChainAt, Stepped};
-ghost use Rattle.decode_raster.specs.laws.Lines.{Done};
+ghost use Rattle.decode_raster.proofs.Laws.Answer.{as_pixels, Fits, ChainAt, Stepped};
+ghost use Rattle.decode_raster.proofs.Laws.Lines.{Done};
 
 use decode_scanline::read_scanline;
 use header::rejection_to_22;
@@ -18,7 +20,7 @@ use slices::fill;
 
 // 0 where every scanline is good and 1 where not, or the number of the rejection; how many scanlines are good; and the
 // byte after the last one, or the first byte of the one that is lost.
-#[derive(Drop)]
+#[derive(Clone, Copy)]
 pub struct RasterAnswer {
     pub answer: u32,
     pub good: u32,
@@ -27,7 +29,7 @@ pub struct RasterAnswer {
 
 // Where the chain of scanlines stands: the next one's start, whether one before it is lost, how many are good, the status of the last one,
 // and past line 65,536 its line number.
-#[derive(Drop)]
+#[derive(Clone, Copy)]
 pub struct Chain {
     pub at: usize,
     pub lost: bool,

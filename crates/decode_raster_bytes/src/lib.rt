@@ -1,14 +1,16 @@
 // The reading of a whole raster into bytes, two for each pixel, low byte first.
 //
 // It goes along the same chain as the reading into pixels of 16 bits, with the same checks: only the rows are stored another way.
+#![tactic(auto)]
+
 ghost use Rattle.std.specs.Prelude.{◌≡◌, false, ◌≤◌, ◌<◌, length};
 ghost use Rattle.units.specs.Counts.{word_bytes};
 ghost use Rattle.limits.specs.Limits.{most_lines};
 ghost use Rattle.layout.specs.Chain.{raster_of};
 ghost use Rattle.layout.specs.PixelBytes.{bytes_reading, pixel_bytes_after, byte_marks_after};
 ghost use Rattle.decode_raster.specs.Answer.{raster_numbers};
-ghost use Rattle.decode_raster.specs.laws.Answer.{as_bytes, Fits, ChainAt, Stepped};
-ghost use Rattle.decode_raster.specs.laws.Lines.{LinesAt, Done};
+ghost use Rattle.decode_raster.proofs.Laws.Answer.{as_bytes, Fits, ChainAt, Stepped};
+ghost use Rattle.decode_raster.proofs.Laws.Lines.{LinesAt, Done};
 
 use decode_raster::{Chain, RasterAnswer, raster_rejection};
 use decode_scanline::read_scanline_bytes;

@@ -1,6 +1,8 @@
 // The bodies of type 9, read: words, alternately OFF and ON runs.
 //
 // A body is checked whole, by `runs_status` or `runs_extent`, before a pixel is stored.
+#![tactic(auto)]
+
 ghost use Rattle.std.specs.Prelude.{◌≡◌, length};
 ghost use Rattle.units.specs.Over.{over, zeros};
 ghost use Rattle.units.specs.Rules.{first};

@@ -2,6 +2,8 @@
 //
 // It is scanned first. Then the row that is lent is filled, with the scanline's pixels where its status is 0, else with zeros. A row has
 // 16 bits for each pixel, or two bytes, low byte first.
+#![tactic(auto)]
+
 ghost use Rattle.std.specs.Prelude.{◌≡◌, ◌++◌, ◌-◌, ◌≤◌, length, drop};
 ghost use Rattle.units.specs.Counts.{word_bytes};
 ghost use Rattle.units.specs.Over.{over, zeros};

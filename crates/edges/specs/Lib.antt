@@ -2,4 +2,3 @@ pub mod Cases
 pub mod Files
 pub mod Pairs
 pub mod Written
-pub mod laws

@@ -1,6 +1,8 @@
 // The answer of a call that writes a file, and its rejections by the sizes of what it would write.
 //
 // They are known before a byte is stored.
+#![tactic(auto)]
+
 ghost use Rattle.std.specs.Prelude.{◌≡◌, ◌&&◌, ◌||◌, eqb, ltb};
 ghost use Rattle.units.specs.Counts.{n_bytes};
 ghost use Rattle.units.specs.Rules.{first};
@@ -13,7 +15,7 @@ use units::{Bytes, Words};
 const MOST_WORDS: Words = Words(65533);
 
 // The number of the rejection or 0, and the written length, 0 where nothing is written.
-#[derive(Drop)]
+#[derive(Clone, Copy)]
 pub struct WriteAnswer {
     pub number: u16,
     pub size: Bytes,

@@ -3,6 +3,8 @@
 //
 // A body's bytes are put over the start of the buffer that is lent, as far as that goes, and the answer is how many bytes
 // the body has. Lent no byte a writer only counts, so that a length is known before a byte is stored.
+#![tactic(auto)]
+
 mod byte_body;
 mod measuring;
 mod pair_body;

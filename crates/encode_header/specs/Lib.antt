@@ -3,4 +3,3 @@ pub mod Job
 pub mod Picture
 pub mod Positions
 pub mod Resolution
-pub mod laws

@@ -2,6 +2,8 @@
 //
 // A body's bytes are put over the start of the buffer that is lent, as far as that goes, and the answer is how many bytes the body
 // has. Lent no byte the writer only counts.
+#![tactic(auto)]
+
 ghost use Rattle.std.specs.Prelude.{◌≡◌, length};
 ghost use Rattle.units.specs.Over.{over};
 ghost use Rattle.codec.specs.PackedPixels.{packed_body};

@@ -2,4 +2,3 @@ pub mod Answer
 pub mod File
 pub mod Positions
 pub mod Writing
-pub mod laws

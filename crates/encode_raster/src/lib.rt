@@ -2,6 +2,8 @@
 //
 // A rejected call changes nothing. Otherwise the file's bytes are put at the start of the output, and what lies behind
 // them is left as it was. All lengths are known before a byte is stored.
+#![tactic(auto)]
+
 mod given;
 
 ghost use Rattle.std.specs.Prelude.{◌≡◌, ◌≤◌, [], ◌∷◌, ◌++◌, length, drop};
@@ -13,7 +15,7 @@ ghost use Rattle.encode_raster.specs.File.{line_bytes, lines_of};
 ghost use Rattle.encode_answer.specs.Answer.{write_numbers};
 ghost use Rattle.encode_raster.specs.Writing.{writing, out_after};
 ghost use Rattle.encode_raster.specs.Answer.{picture};
-ghost use Rattle.encode_raster.specs.laws.Answer.{bare, head_size, plan_rules, plan_size, Within, Measured, LineFits, LinesFit};
+ghost use Rattle.encode_raster.proofs.Laws.Answer.{bare, head_size, plan_rules, plan_size, Within, Measured, LineFits, LinesFit};
 
 use encode_answer::{WriteAnswer, answer_by_size, or_long, rejected};
 use encode_body::{body_size, highest, write_body};
@@ -23,7 +25,7 @@ use std::num::wrapping_add_u16;
 use units::{Bytes, bytes_to_words, store_words};
 
 // The bytes of all scanlines, and whether a body is too long for a scanline header to count.
-#[derive(Drop)]
+#[derive(Clone, Copy)]
 pub struct Measure {
     pub size: Bytes,
     pub long: bool,

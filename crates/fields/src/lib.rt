@@ -1,6 +1,8 @@
 // The fields of a header as they are stored, and how long it is.
 //
 // Nothing is asked of a file: a byte past its end reads as 0.
+#![tactic(auto)]
+
 ghost use Rattle.std.specs.Prelude.{◌≡◌};
 ghost use Rattle.units.specs.Counts.{bytes_of_blocks};
 ghost use Rattle.fields.specs.Fields.{fields_of, header_words, header_blocks};
@@ -8,7 +10,7 @@ ghost use Rattle.fields.specs.Fields.{fields_of, header_words, header_blocks};
 use units::{Blocks, Words, blocks_to_bytes, byte_at, u16_at, u32_at, words_to_blocks};
 
 // The fields that are looked at, by the format's names.
-#[derive(Drop)]
+#[derive(Clone, Copy)]
 pub struct Fields {
     pub htc: u16,
     pub wtf: Words,

@@ -1,4 +1,3 @@
 pub mod Reading
 pub mod Rejections
 pub mod Resolution
-pub mod laws

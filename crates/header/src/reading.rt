@@ -8,14 +8,14 @@ use crate::rejection::rejection_to_22;
 use fields::{Fields, fields_of, header_blocks};
 use units::Blocks;
 
-#[derive(Drop)]
+#[derive(Clone, Copy)]
 pub enum Resolution {
     Unspecified,
     Microns(u16),
     DotsPerInch(u16),
 }
 
-#[derive(Drop)]
+#[derive(Clone, Copy)]
 pub struct Header {
     pub data_type: u16,
     pub blocks: Blocks,
@@ -29,7 +29,7 @@ pub struct Header {
 }
 
 // A rejection has its number in the table of rejections.
-#[derive(Drop)]
+#[derive(Clone, Copy)]
 pub enum HeaderAnswer {
     Rejected(u16),
     Accepted(Header),

@@ -1,5 +1,7 @@
 // Prints the header of the file on standard input, and the colors that the values 0 to 300 and 65,535 are shown in; or the
 // number that it is rejected with. An input of more than 140,000 bytes is `too long`.
+#![tactic(auto)]
+
 use color::{ColorAnswer, Rgb};
 use header::{Header, HeaderAnswer, Resolution};
 use libc::{STDIN_FILENO, STDOUT_FILENO};

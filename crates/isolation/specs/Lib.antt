@@ -1,3 +1,2 @@
 pub mod Covered
 pub mod Statement
-pub mod laws

@@ -3,4 +3,3 @@ pub mod Partway
 pub mod PixelBytes
 pub mod Reading
 pub mod Scanline
-pub mod laws

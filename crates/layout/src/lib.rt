@@ -1,6 +1,8 @@
 // How a raster lies in the bytes that hold it: its scanlines, the chain that they form, and the reading of the whole.
 //
 // Definitions and laws, in specs/, that the crates which read a raster cite; and what they hand on of one.
+#![tactic(auto)]
+
 ghost use Rattle.std.specs.Prelude.{◌≡◌};
 ghost use Rattle.layout.specs.Chain.{sheet_of, raster_of, one_if_good};
 ghost use Rattle.layout.specs.Reading.{answer_of};
@@ -8,7 +10,7 @@ ghost use Rattle.layout.specs.Reading.{answer_of};
 use fields::{data_start, fields_of};
 
 // Where a raster's data start, SCN, the data type, pixels per line and the number of lines. The bytes are lent beside it.
-#[derive(Drop)]
+#[derive(Clone, Copy)]
 pub struct RasterLayout {
     pub start: usize,
     pub scn: u8,

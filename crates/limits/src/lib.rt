@@ -1,5 +1,7 @@
 // The limits of the fields, 16 to 20, each a function of its own: every call that has the field has its limit too. Each
 // function answers the number of the first rule that holds, or 0.
+#![tactic(auto)]
+
 ghost use Rattle.std.specs.Prelude.{◌≡◌, cond, eqb, ltb};
 ghost use Rattle.units.specs.Rules.{first};
 ghost use Rattle.codec.specs.Table.{is_data_type};

@@ -1,5 +1,7 @@
 // Lists the raster on standard input: a head and a row for each scanline, or the number that it is rejected with. An
 // input of more than 32,768 bytes is `too long`.
+#![tactic(auto)]
+
 use decode_raster::RasterAnswer;
 use libc::{STDIN_FILENO, STDOUT_FILENO};
 use text::{put, put_decimal, put_field};

@@ -2,11 +2,13 @@
 // with each side mirrored or not.
 //
 // A move without room in both buffers changes nothing. What lies past the picture is left as it was.
+#![tactic(auto)]
+
 ghost use Rattle.std.specs.Prelude.{◌≡◌, ◌+◌, ◌*◌, ◌≤◌, ◌<◌, ◌++◌, length, get_or, drop};
 ghost use Rattle.moves.specs.Tabulate.{tabulate};
 ghost use Rattle.moves.specs.Moves.{mirror, moved_after};
-ghost use Rattle.moves.specs.laws.Picture.{row_pixel, column_pixel, picture, line_moved};
-ghost use Rattle.moves.specs.laws.Filling.{BandFilled};
+ghost use Rattle.moves.proofs.Laws.Picture.{row_pixel, column_pixel, picture, line_moved};
+ghost use Rattle.moves.proofs.Laws.Filling.{BandFilled};
 
 // Columns of a band: 128 lines of input take 8 kilobytes of the nearest cache, 64 bytes each.
 const BAND: usize = 128;

@@ -1,4 +1,3 @@
 pub mod Numbering
 pub mod Statement
 pub mod Table
-pub mod laws

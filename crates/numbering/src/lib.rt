@@ -1,11 +1,13 @@
 // The line number that a scanline header must have. It is one word, so that it rolls over after 65,535: to 0 or to 1, as line 65,536 has it.
+#![tactic(auto)]
+
 ghost use Rattle.std.specs.Prelude.{◌≡◌, ◌≤◌};
 ghost use Rattle.numbering.specs.Numbering.{wanted_number, rollover_met};
 
 use units::u16_at;
 
 // The line number that a scanline must have, and what is known of the number in line 65,536.
-#[derive(Drop)]
+#[derive(Clone, Copy)]
 pub struct Numbered {
     pub number: u16,
     pub rollover: u16,

@@ -2,10 +2,12 @@
 //
 // A rejected call changes nothing. Otherwise the picture's places are filled, and what lies past them is left as it was. The
 // turning knows nothing of files: it takes the pixels of a reading, and its orientation.
+#![tactic(auto)]
+
 ghost use Rattle.std.specs.Prelude.{◌*◌, ◌≡◌, cond, length, ltb};
 ghost use Rattle.orient.specs.Orientation.{bit_set, width, height};
 ghost use Rattle.orient.specs.Turning.{turn_rejection, filled_after, upright_after, pixels_after};
-ghost use Rattle.orient.specs.laws.Moving.{either_way};
+ghost use Rattle.orient.proofs.Laws.Moving.{either_way};
 
 use limits::{earlier, nol_rejection, ppl_rejection, slo_rejection};
 use moves::move_pixels;
@@ -34,7 +36,7 @@ pub fn turn_back(slo: u32, ppl: u32, nol: u32, upright: &[u16], pixels: &mut [u1
 }
 
 // The sides of the upright picture, in pixels.
-#[derive(Drop)]
+#[derive(Clone, Copy)]
 pub struct PictureSize {
     pub width: u32,
     pub height: u32,

@@ -2,4 +2,3 @@ pub mod Packing
 pub mod Statement
 pub mod Lanes
 pub mod Weights
-pub mod laws

@@ -1,5 +1,7 @@
 // Sixteen pixels to a word, the leftmost in the highest bit: definitions and laws, in specs/, how many words hold a row, and the word of
 // its first pixels.
+#![tactic(auto)]
+
 ghost use Rattle.std.specs.Prelude.{◌≡◌, ◌+◌, ◌≤◌, ◌<◌, length};
 ghost use Rattle.packing.specs.Packing.{packed_count, number};
 ghost use Rattle.packing.specs.Lanes.{level_at, four_levels};

@@ -1,1 +1,2 @@
 // What the writer writes reads back: the law.
+#![tactic(auto)]

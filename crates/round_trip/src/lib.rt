@@ -1,6 +1,8 @@
 // A picture written and read back, and the law that joins the two calls: reading gives back every pixel.
 //
 // The function makes both calls, so that its promise says it of the calls themselves and not only of definitions.
+#![tactic(auto)]
+
 ghost use Rattle.std.specs.Prelude.{◌≡◌, ◌*◌, ◌≤◌, length};
 ghost use Rattle.encode_raster.specs.Answer.{picture};
 ghost use Rattle.encode_raster.specs.Writing.{writer_rejection};
@@ -12,7 +14,7 @@ use encode_raster::write_raster;
 
 // What the writer answered, and the reader. Where the writer rejected the picture nothing was read, and the reader's answer is the
 // writer's number, so that it is not taken for a reading.
-#[derive(Drop)]
+#[derive(Clone, Copy)]
 pub struct RoundTrip {
     pub written: WriteAnswer,
     pub read: RasterAnswer,

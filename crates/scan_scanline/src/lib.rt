@@ -1,5 +1,7 @@
 // One scanline of a raster, with a header or without, scanned in the bytes that are left of it: its status, which is the paper's mark,
 // where the next one starts, and where its body lies. No pixel is stored.
+#![tactic(auto)]
+
 mod headed;
 mod open;
 mod regular;
@@ -12,7 +14,7 @@ pub use regular::{is_regular, regular_size};
 use units::Bytes;
 
 // The status of a scanline, whether the ones after it are lost with it, and how many bytes on the next one starts.
-#[derive(Drop)]
+#[derive(Clone, Copy)]
 pub struct Scanline {
     pub status: u8,
     pub lost: bool,

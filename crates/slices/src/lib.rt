@@ -1,6 +1,8 @@
 // Fills and copies of slices, one small loop each, so that the compiler can store many places a turn.
 //
 // A copy goes as far as both slices do: what lies behind it in the buffer stays.
+#![tactic(auto)]
+
 ghost use Rattle.std.specs.Prelude.{◌≡◌, ◌&&◌, ◌+◌, min, max, length, replicate, leb};
 ghost use Rattle.std.proofs.lemmas.List.Edits.{sets};
 ghost use Rattle.units.specs.Counts.{word_bytes};

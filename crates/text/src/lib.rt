@@ -2,6 +2,8 @@
 //
 // Each function puts its text at a position and answers the position after it. Where the text does not fit, nothing is
 // stored and the position stays.
+#![tactic(auto)]
+
 ghost use Rattle.std.specs.Prelude.{◌≡◌};
 ghost use Rattle.text.specs.Put.{put_at, next_at, DecimalPut};
 

@@ -1,1 +1,2 @@
 // Bytes that follow the last scanline are ignored: the law about two files that begin alike.
+#![tactic(auto)]

@@ -3,6 +3,8 @@
 // A rejected call changes nothing. Otherwise the new file is put at the start of the output, and what lies behind it is left as it was.
 // All of it is known before a byte is stored: the scanlines are gone through once to survey them and once to write them. No pixels are
 // lent, so one row stands on the stack.
+#![tactic(auto)]
+
 ghost use Rattle.std.specs.Prelude.{◌≡◌, ◌||◌, ◌++◌, length, drop};
 ghost use Rattle.units.specs.Rules.{first};
 ghost use Rattle.limits.specs.Limits.{most_pixels};
@@ -14,7 +16,7 @@ ghost use Rattle.encode_answer.specs.Answer.{write_numbers};
 ghost use Rattle.transcode_parts.specs.Rules.{unmoved_rules};
 ghost use Rattle.transcode.specs.File.{new_line, new_lines};
 ghost use Rattle.transcode.specs.Transcoding.{line_rules, transcoding, out_transcoded};
-ghost use Rattle.transcode.specs.laws.Answer.{old_row, new_size, Movable, Ready, IsSurvey, Surveyed, LineFits, IsWritten, LinesFit};
+ghost use Rattle.transcode.proofs.Laws.Answer.{old_row, new_size, Movable, Ready, IsSurvey, Surveyed, LineFits, IsWritten, LinesFit};
 
 use decode_scanline::read_scanline;
 use encode_answer::{WriteAnswer, or_long, rejected};
@@ -28,7 +30,7 @@ use units::{Bytes, bytes_to_words};
 
 // What the scanlines are, of which the first that is refused ends the survey: whether one starts partway, whether a new body is too long
 // for a scanline header to count, and the bytes of all new scanlines.
-#[derive(Drop)]
+#[derive(Clone, Copy)]
 pub struct Survey {
     pub refused: bool,
     pub partway: bool,
@@ -37,7 +39,7 @@ pub struct Survey {
 }
 
 // The status of a scanline, how many bytes on the next one starts, whether it starts partway, and the bytes of its new body.
-#[derive(Drop)]
+#[derive(Clone, Copy)]
 pub struct LineSurvey {
     pub status: u8,
     pub used: Bytes,
@@ -46,7 +48,7 @@ pub struct LineSurvey {
 }
 
 // How many bytes on the next scanline starts in the old raster and in the new one.
-#[derive(Drop)]
+#[derive(Clone, Copy)]
 pub struct LineSizes {
     pub used: Bytes,
     pub size: Bytes,

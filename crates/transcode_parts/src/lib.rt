@@ -1,6 +1,8 @@
 // The small parts of the move between data types 1 and 9: what the types are, which number rejects it, and the headers of the new file.
 //
 // They are apart from the move because each stands for itself: none looks at a scanline's body.
+#![tactic(auto)]
+
 ghost use Rattle.std.specs.Prelude.{◌≡◌, min};
 ghost use Rattle.units.specs.Over.{over};
 ghost use Rattle.units.specs.Rules.{first};

@@ -5,6 +5,8 @@
 // read, two bytes each. Prints a line, `refused N` or `turned W H`, the sides of the upright picture, and then the pixels of the
 // filled buffer as they are after the call, two bytes each. Without the seven numbers it prints `short`; else `too long` where
 // one of them is above its limit; else `short` where pixels are missing.
+#![tactic(auto)]
+
 use libc::{STDIN_FILENO, STDOUT_FILENO};
 use orient::{picture_size, turn, turn_back};
 use slices::fill;

@@ -2,6 +2,8 @@
 // a program in C holds.
 //
 // The function makes both calls, so that its promise says demand 3 of the calls themselves and not only of definitions.
+#![tactic(auto)]
+
 ghost use Rattle.std.specs.Prelude.{◌≡◌, false};
 ghost use Rattle.layout.specs.Chain.{sheet_of};
 ghost use Rattle.isolation.specs.Statement.{ChangedInBodies};
@@ -11,7 +13,7 @@ ghost use Rattle.two_c_readings.specs.Statement.{IsolatedBytes};
 
 use capi::ingr_raster;
 
-#[derive(Drop)]
+#[derive(Clone, Copy)]
 pub struct TwoResults {
     pub first: u32,
     pub second: u32,

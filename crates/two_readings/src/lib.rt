@@ -1,6 +1,8 @@
 // Two whole readings, and the law that joins them: damage inside the bodies of scanlines stays there.
 //
 // The function makes both calls, so that its promise says demand 3 of the calls themselves and not only of definitions.
+#![tactic(auto)]
+
 ghost use Rattle.std.specs.Prelude.{◌≡◌, length};
 ghost use Rattle.layout.specs.Chain.{sheet_of};
 ghost use Rattle.layout.specs.Reading.{raster_rejection};
@@ -10,7 +12,7 @@ ghost use Rattle.two_readings.specs.Call.{ReadingOf};
 
 use decode_raster::{RasterAnswer, read_raster};
 
-#[derive(Drop)]
+#[derive(Clone, Copy)]
 pub struct TwoAnswers {
     pub first: RasterAnswer,
     pub second: RasterAnswer,

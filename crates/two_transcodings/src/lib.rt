@@ -1,6 +1,8 @@
 // A sheet moved to the other type, and moved back or read there, with the laws that join the two calls.
 //
 // Each function makes both calls, so that its promise says the law of the calls themselves and not only of definitions.
+#![tactic(auto)]
+
 ghost use Rattle.std.specs.Prelude.{◌≡◌, ◌*◌, ◌≤◌, length};
 ghost use Rattle.layout.specs.Chain.{sheet_of};
 ghost use Rattle.there_and_back.specs.Statement.{NothingFollows, BodiesAsWritten};
@@ -11,7 +13,7 @@ use encode_answer::{WriteAnswer, rejected};
 use transcode::transcode;
 
 // What the two moves answered. Where the first is rejected there is no second, and its answer is the first one's number.
-#[derive(Drop)]
+#[derive(Clone, Copy)]
 pub struct TwoMoves {
     pub there: WriteAnswer,
     pub back: WriteAnswer,
@@ -35,7 +37,7 @@ pub fn transcode_twice(file: &[u8], between: &mut [u8], out: &mut [u8]) -> TwoMo
 }
 
 // What the move answered, and the reading of what it wrote. Where it is rejected nothing is read, and the reading's answer is its number.
-#[derive(Drop)]
+#[derive(Clone, Copy)]
 pub struct MovedReading {
     pub moved: WriteAnswer,
     pub read: RasterAnswer,

@@ -1,6 +1,8 @@
 // Two whole turnings, and the law that joins them: turning back gives the sheet again, and the other way round.
 //
 // Each function makes both calls, so that its promise says it of the calls themselves and not only of definitions.
+#![tactic(auto)]
+
 ghost use Rattle.std.specs.Prelude.{◌≡◌, ◌*◌, ◌≤◌, length};
 ghost use Rattle.orient.specs.Turning.{turn_rejection};
 ghost use Rattle.two_turns.specs.Call.{TurnCall, TurnBackCall, ComesBack};
@@ -8,7 +10,7 @@ ghost use Rattle.two_turns.specs.Call.{TurnCall, TurnBackCall, ComesBack};
 use orient::{turn, turn_back};
 
 // What the two calls answered, each the number of its rejection or 0.
-#[derive(Drop)]
+#[derive(Clone, Copy)]
 pub struct TwoNumbers {
     pub first: u32,
     pub second: u32,

@@ -4,4 +4,3 @@ pub mod Over
 pub mod Rules
 pub mod Scan
 pub mod Words
-pub mod laws

@@ -4,6 +4,8 @@
 // one is not taken for another, and each conversion is a function of this crate. A position in a slice is no count, and
 // stays a `usize`. Nothing is asked of a caller: a count too large for its type is answered as the largest, and a byte
 // past the end of a slice reads as 0.
+#![tactic(auto)]
+
 mod little_endian;
 mod word_slice;
 
@@ -16,13 +18,13 @@ pub use word_slice::{
     word_start,
 };
 
-#[derive(Drop)]
+#[derive(Clone, Copy)]
 pub struct Blocks(pub u16);
 
-#[derive(Drop)]
+#[derive(Clone, Copy)]
 pub struct Words(pub usize);
 
-#[derive(Drop)]
+#[derive(Clone, Copy)]
 pub struct Bytes(pub usize);
 
 pub fn blocks_to_words(n: Blocks) -> Words

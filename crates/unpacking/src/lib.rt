@@ -1,6 +1,8 @@
 // The pixels of words, sixteen to a word, the leftmost in the highest bit.
 //
 // A byte's eight pixels are made at once, by the weights of its bits. What lies behind a body's pixels stays as it was.
+#![tactic(auto)]
+
 ghost use Rattle.std.specs.Prelude.{◌≡◌, ◌+◌, ◌*◌, ◌≤◌, ◌<◌, min, length};
 ghost use Rattle.units.specs.LittleEndian.{u16_at};
 ghost use Rattle.units.specs.Over.{over};

@@ -1,4 +1,6 @@
 // The pixels of words as in crate `unpacking`, stored as two bytes each, low byte first.
+#![tactic(auto)]
+
 ghost use Rattle.std.specs.Prelude.{◌≡◌, ◌+◌, ◌*◌, ◌≤◌, ◌<◌, min, length};
 ghost use Rattle.units.specs.LittleEndian.{u16_at};
 ghost use Rattle.units.specs.Over.{over};

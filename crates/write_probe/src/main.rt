@@ -4,6 +4,8 @@
 // the color table, the number of pixels, the room of the output, and the byte that the output holds before the call;
 // then the table, then the pixels, two bytes each. Prints `refused N` or `written LENGTH` and then the whole output as it
 // is after the call; `too long` or `short` where the input is.
+#![tactic(auto)]
+
 use encode_answer::WriteAnswer;
 use encode_raster::write_raster;
 use libc::{STDIN_FILENO, STDOUT_FILENO};

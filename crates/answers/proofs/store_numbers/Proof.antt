@@ -6,9 +6,9 @@ use lib.Seq.{sets, length-sets}
 use borrow.Author.Rules.{rules}
 use Rattle.units.specs.LittleEndian.{u32_bytes}
 use Rattle.units.specs.Over.{over}
-use Rattle.units.specs.laws.Over.{sets_over}
+use Rattle.units.proofs.Laws.Over.{sets_over}
 use Rattle.answers.specs.Answer.{number_bytes}
-use Rattle.answers.specs.laws.Numbers.{sets-number, sets-none}
+use Rattle.answers.proofs.Laws.Numbers.{sets-number, sets-none}
 use Rattle.answers.proofs.store_numbers.Statement.{statement}
 use Rattle.answers.proofs.store_numbers.Tie as tie
 

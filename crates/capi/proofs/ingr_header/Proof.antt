@@ -4,9 +4,9 @@ use Rattle.units.specs.Over.{over}
 use Rattle.header.specs.declared.reading.HeaderAnswer.TheVariants.{Accepted}
 use Rattle.header.specs.Reading.{HeaderNumbers, rejected_numbers, header_numbers, header_reading}
 use Rattle.answers.specs.Answer.{number_bytes}
-use Rattle.answers.specs.laws.Call.{too_short, rejected, stored}
+use Rattle.answers.proofs.Laws.Call.{too_short, rejected, stored}
 use Rattle.capi.specs.Calls.{header_size, header_call, c_header}
-use Rattle.capi.specs.laws.Rejections.{header-from}
+use Rattle.capi.proofs.Laws.Rejections.{header-from}
 use borrow.Author.Rules.{rules}
 use Rattle.capi.proofs.ingr_header.Statement.{statement}
 use Rattle.capi.proofs.ingr_header.Tie as tie

@@ -2,10 +2,10 @@ use Prim.Native.Nat.{◌<◌}
 use native.Mathlib.Omega.{arith}
 use lib.ListN.{length}
 use Rattle.transcode.specs.Transcoding.{out_transcoded}
-use Rattle.transcode.specs.laws.Call.{number-from, size_most}
-use Rattle.answers.specs.laws.Call.{too_short, kept_if_short}
+use Rattle.transcode.proofs.Laws.Call.{number-from, size_most}
+use Rattle.answers.proofs.Laws.Call.{too_short, kept_if_short}
 use Rattle.capi.specs.Calls.{write_size, c_move}
-use Rattle.capi.specs.laws.Writing.{wrote}
+use Rattle.capi.proofs.Laws.Writing.{wrote}
 use borrow.Author.Rules.{rules}
 use Rattle.capi.proofs.ingr_move.Statement.{statement}
 use Rattle.capi.proofs.ingr_move.Tie as tie

@@ -1,8 +1,8 @@
 use native.Mathlib.Omega.{arith}
-use Rattle.answers.specs.laws.Call.{too_short}
+use Rattle.answers.proofs.Laws.Call.{too_short}
 use Rattle.capi.specs.Calls.{color_size, c_plotter_color}
-use Rattle.capi.specs.laws.Rejections.{plotter_from}
-use Rattle.capi.specs.laws.Coloring.{numbered, colored}
+use Rattle.capi.proofs.Laws.Rejections.{plotter_from}
+use Rattle.capi.proofs.Laws.Coloring.{numbered, colored}
 use borrow.Author.Rules.{rules}
 use Rattle.capi.proofs.ingr_plotter_color.Statement.{statement}
 use Rattle.capi.proofs.ingr_plotter_color.Tie as tie

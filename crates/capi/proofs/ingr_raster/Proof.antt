@@ -1,5 +1,5 @@
 use native.Mathlib.Omega.{arith}
-use Rattle.capi.specs.laws.Reading.{read_short, end_fits, read_rejected, read_done}
+use Rattle.capi.proofs.Laws.Reading.{read_short, end_fits, read_rejected, read_done}
 use borrow.Author.Rules.{rules}
 use Rattle.capi.proofs.ingr_raster.Statement.{statement}
 use Rattle.capi.proofs.ingr_raster.Tie as tie

@@ -4,10 +4,10 @@ use lib.ListN.{length}
 use Rattle.encode_header.specs.Picture.{Picture}
 use Rattle.encode_raster.specs.Writing.{out_after}
 use Rattle.encode_raster.specs.Answer.{picture}
-use Rattle.encode_raster.specs.laws.Call.{number-from, size_most}
-use Rattle.answers.specs.laws.Call.{too_short, kept_if_short}
+use Rattle.encode_raster.proofs.Laws.Call.{number-from, size_most}
+use Rattle.answers.proofs.Laws.Call.{too_short, kept_if_short}
 use Rattle.capi.specs.Calls.{write_size, c_write}
-use Rattle.capi.specs.laws.Writing.{wrote}
+use Rattle.capi.proofs.Laws.Writing.{wrote}
 use borrow.Author.Rules.{rules}
 use Rattle.capi.proofs.ingr_write.Statement.{statement}
 use Rattle.capi.proofs.ingr_write.Tie as tie

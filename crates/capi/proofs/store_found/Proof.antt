@@ -4,7 +4,7 @@ use native.Mathlib.Omega.{arith}
 use Rattle.units.specs.Over.{over}
 use Rattle.color.specs.Color.{color_numbers}
 use Rattle.answers.specs.Answer.{number_bytes}
-use Rattle.answers.specs.laws.Call.{rejected, stored}
+use Rattle.answers.proofs.Laws.Call.{rejected, stored}
 use Rattle.capi.specs.Calls.{color_size, color_call}
 use borrow.Author.Rules.{rules}
 use Rattle.capi.proofs.store_found.Statement.{statement}

@@ -1,5 +1,5 @@
 use native.Mathlib.Omega.{arith}
-use Rattle.capi.specs.laws.Writing.{write_rejected, write_done}
+use Rattle.capi.proofs.Laws.Writing.{write_rejected, write_done}
 use borrow.Author.Rules.{rules}
 use Rattle.capi.proofs.store_written.Statement.{statement}
 use Rattle.capi.proofs.store_written.Tie as tie

@@ -4,12 +4,12 @@ use mathlib.Core.List.{List}
 use mathlib.Core.Path.{◌≡◌, sym, ◌∙◌, ap}
 use Prim.Native.Nat.{ℕ}
 use borrow.Author.Rules.{rules}
-use Rattle.units.specs.laws.Scan.{either}
+use Rattle.units.proofs.Laws.Scan.{either}
 use Rattle.fields.specs.declared.Fields.{Fields}
 use Rattle.fields.specs.Fields.{fields_of}
 use Rattle.header.specs.Rejections.{rejection_to22}
 use Rattle.color.specs.Color.{ColorNumbers, no_color, is_inked, color_reading, plotter_reading}
-use Rattle.color.specs.laws.Colors.{Both, both_rejected, by_plotter, by_ink, by_table}
+use Rattle.color.proofs.Laws.Colors.{Both, both_rejected, by_plotter, by_ink, by_table}
 use Rattle.color.proofs.color_by.Statement.{statement}
 use Rattle.color.proofs.color_by.Tie as tie
 

@@ -6,7 +6,7 @@ use mathlib.Core.Path.{◌≡◌, refl, sym, ◌∙◌}
 use Rattle.color.specs.Color.{environ_color, entry_color, no_color}
 use Rattle.header.specs.Rejections.{slot_at}
 use Rattle.units.specs.Scan.{scan}
-use Rattle.units.specs.laws.Scan.{scan_hit, scan_miss, scan-end}
+use Rattle.units.proofs.Laws.Scan.{scan_hit, scan_miss, scan-end}
 use Rattle.color.proofs.environ_color.Statement.{statement}
 use Rattle.color.proofs.environ_color.Tie as tie
 

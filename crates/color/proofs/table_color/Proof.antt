@@ -5,7 +5,7 @@ use Prim.Native.Nat.{ℕ, ◌≤◌}
 use mathlib.Core.Path.{◌≡◌, sym, ◌∙◌, ap}
 use borrow.Author.Rules.{rules}
 use Rattle.color.specs.Color.{ColorNumbers, table_color, gray_color, igds_color, environ_color}
-use Rattle.header.specs.laws.Accepted.{Accepted, accepted}
+use Rattle.header.proofs.Laws.Accepted.{Accepted, accepted}
 use Rattle.header.specs.Rejections.{rejection_to22}
 use Rattle.fields.specs.Fields.{fields_of}
 use Rattle.fields.specs.declared.Fields.{Fields}

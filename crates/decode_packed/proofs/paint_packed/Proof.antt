@@ -1,6 +1,6 @@
 use mathlib.Core.Path.{sym, ◌∙◌}
 use Rattle.units.specs.Words.{words}
-use Rattle.units.specs.laws.Over.{over_taken}
+use Rattle.units.proofs.Laws.Over.{over_taken}
 use Rattle.packing.specs.Packing.{word_bits}
 use borrow.Author.Rules.{rules}
 use Rattle.decode_packed.proofs.paint_packed.Statement.{statement}

@@ -3,7 +3,7 @@ use native.Mathlib.Omega.{arith}
 use lib.Seq.{length-take-le}
 use Rattle.units.specs.Words.{words, word_count}
 use Rattle.packing.specs.Packing.{word_bits}
-use Rattle.decode_packed.specs.laws.Clearing.{cleared, length-pixels}
+use Rattle.decode_packed.proofs.Laws.Clearing.{cleared, length-pixels}
 use borrow.Author.Rules.{rules}
 use Rattle.decode_packed.proofs.paint_packed_bytes.Statement.{statement}
 use Rattle.decode_packed.proofs.paint_packed_bytes.Tie as tie

@@ -2,7 +2,7 @@ use Prim.Native.Nat.{◌-◌, ◌%◌, ◌/◌}
 use Rattle.units.specs.Counts.{word_bytes}
 use mathlib.Core.Path.{◌≡◌, sym}
 use lib.Pow.{pow_pos}
-use Rattle.packing.specs.laws.Spare.{spare_none, spare_some, divisor}
+use Rattle.packing.proofs.Laws.Spare.{spare_none, spare_some, divisor}
 use native.Mathlib.Omega.{arith}
 use borrow.Author.Rules.{rules}
 use Rattle.decode_packed.proofs.spare_set.Statement.{statement}

@@ -6,9 +6,9 @@ use Prim.Native.Nat.{◌+◌, ◌-◌, ◌≤◌, zero-le}
 use mathlib.Core.Path.{◌≡◌, refl, ◌∙◌}
 use Rattle.units.specs.Over.{over, zeros}
 use Rattle.units.specs.Words.{words, words_to_bytes}
-use Rattle.slices.specs.laws.Painting.{blank_from, run_next_blank, blank-first, blank_last}
+use Rattle.slices.proofs.Laws.Painting.{blank_from, run_next_blank, blank-first, blank_last}
 use Rattle.codec.specs.PairPixels.{pair_pixels}
-use Rattle.codec.specs.laws.PairReading.{pair_pixels_lem, end_pixels}
+use Rattle.codec.proofs.Laws.PairReading.{pair_pixels_lem, end_pixels}
 use Rattle.decode_pairs.proofs.paint_pair_bytes.Statement.{statement}
 use Rattle.decode_pairs.proofs.paint_pair_bytes.Tie as tie
 

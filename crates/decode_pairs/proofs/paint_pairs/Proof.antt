@@ -6,10 +6,10 @@ use Prim.Native.Nat.{◌+◌, ◌-◌, ◌≤◌, zero-le}
 use mathlib.Core.Path.{◌≡◌, refl, ◌∙◌, ap}
 use Rattle.units.specs.Over.{over}
 use Rattle.units.specs.Words.{words, words_to_bytes}
-use Rattle.units.specs.laws.Over.{sets_over}
-use Rattle.slices.specs.laws.Painting.{run_next}
+use Rattle.units.proofs.Laws.Over.{sets_over}
+use Rattle.slices.proofs.Laws.Painting.{run_next}
 use Rattle.codec.specs.PairPixels.{pair_pixels}
-use Rattle.codec.specs.laws.PairReading.{pair_pixels_lem, end_pixels}
+use Rattle.codec.proofs.Laws.PairReading.{pair_pixels_lem, end_pixels}
 use Rattle.decode_pairs.proofs.paint_pairs.Statement.{statement}
 use Rattle.decode_pairs.proofs.paint_pairs.Tie as tie
 

@@ -3,7 +3,7 @@ use lib.ListN.{length, drop}
 use native.Mathlib.Omega.{arith}
 use Prim.Native.Nat.{ℕ, ◌+◌, ◌-◌, ◌≤◌, zero-le}
 use mathlib.Core.Path.{◌≡◌, refl, sym, ◌∙◌, ap}
-use Rattle.codec.specs.laws.PairReading.{pair_over, pair_full, pair_more, end_from}
+use Rattle.codec.proofs.Laws.PairReading.{pair_over, pair_full, pair_more, end_from}
 use Rattle.codec.specs.PairPixels.{pairs_from}
 use Rattle.units.specs.Words.{words}
 use Rattle.decode_pairs.proofs.pairs_extent.Statement.{statement}

@@ -5,7 +5,7 @@ use native.Mathlib.Omega.{arith}
 use native.Mathlib.Nat.{le_refl}
 use Prim.Native.Nat.{◌+◌, ◌-◌, ◌%◌, ◌≤◌, ◌<◌}
 use mathlib.Core.Path.{◌≡◌}
-use Rattle.codec.specs.laws.PairReading.{pair_total_lem, end_total}
+use Rattle.codec.proofs.Laws.PairReading.{pair_total_lem, end_total}
 use Rattle.codec.specs.PairPixels.{pair_total}
 use Rattle.units.specs.Words.{words, word_count}
 use Rattle.decode_pairs.proofs.pairs_status.Statement.{statement}

@@ -1,5 +1,5 @@
-use Rattle.units.specs.laws.Numbers.{product_fits}
-use Rattle.decode_raster.specs.laws.Whole.{by_file, by_pixels, by_marks, by_none}
+use Rattle.units.proofs.Laws.Numbers.{product_fits}
+use Rattle.decode_raster.proofs.Laws.Whole.{by_file, by_pixels, by_marks, by_none}
 use borrow.Author.Rules.{rules}
 use Rattle.decode_raster.proofs.raster_rejection.Statement.{statement}
 use Rattle.decode_raster.proofs.raster_rejection.Tie as tie

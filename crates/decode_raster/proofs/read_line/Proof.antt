@@ -5,11 +5,11 @@ use lib.ListN.{length, take, drop}
 use Rattle.units.specs.Over.{zeros}
 use Rattle.layout.specs.Scanline.{step_of, reading_of}
 use Rattle.layout.specs.Chain.{raster_of}
-use Rattle.layout.specs.laws.Chain.{start_within, good_most}
+use Rattle.layout.proofs.Laws.Chain.{start_within, good_most}
 use Rattle.decode_scanline.specs.Answer.{IsLine}
-use Rattle.decode_scanline.specs.laws.Painted.{scan-of}
-use Rattle.decode_raster.specs.laws.Answer.{as_pixels}
-use Rattle.decode_raster.specs.laws.Steps.{next_within, one_most, step-lost, number_here, known_after, step_on}
+use Rattle.decode_scanline.proofs.Laws.Painted.{scan-of}
+use Rattle.decode_raster.proofs.Laws.Answer.{as_pixels}
+use Rattle.decode_raster.proofs.Laws.Steps.{next_within, one_most, step-lost, number_here, known_after, step_on}
 use borrow.Author.Rules.{rules}
 use Rattle.decode_raster.proofs.read_line.Statement.{statement}
 use Rattle.decode_raster.proofs.read_line.Tie as tie

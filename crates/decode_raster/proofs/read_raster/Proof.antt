@@ -1,5 +1,5 @@
 use mathlib.Core.Path.{◌∙◌}
-use Rattle.decode_raster.specs.laws.Whole.{rejected_whole, has_room, read_whole}
+use Rattle.decode_raster.proofs.Laws.Whole.{rejected_whole, has_room, read_whole}
 use borrow.Author.Rules.{rules}
 use Rattle.decode_raster.proofs.read_raster.Statement.{statement}
 use Rattle.decode_raster.proofs.read_raster.Tie as tie

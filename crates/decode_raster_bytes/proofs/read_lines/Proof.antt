@@ -8,10 +8,10 @@ use lib.ListN.{length, replicate, set}
 use borrow.Rule.Slice.PartMut.{mid_of, put_mid, mid_len}
 use Rattle.units.specs.Counts.{word_bytes}
 use Rattle.units.specs.Over.{zeros}
-use Rattle.units.specs.laws.Parts.{row_within}
+use Rattle.units.proofs.Laws.Parts.{row_within}
 use Rattle.layout.specs.Chain.{raster_of}
-use Rattle.decode_raster.specs.laws.Answer.{as_bytes, Fits}
-use Rattle.decode_raster.specs.laws.Lines.{LinesAt, Done, row_fits, lent_length, lines_next, lines_lost, lines_done}
+use Rattle.decode_raster.proofs.Laws.Answer.{as_bytes, Fits}
+use Rattle.decode_raster.proofs.Laws.Lines.{LinesAt, Done, row_fits, lent_length, lines_next, lines_lost, lines_done}
 use Rattle.decode_raster_bytes.proofs.read_lines.Statement.{statement}
 use Rattle.decode_raster_bytes.proofs.read_lines.Tie as tie
 

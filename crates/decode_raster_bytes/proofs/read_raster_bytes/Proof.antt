@@ -2,7 +2,7 @@ use Prim.Native.Nat.{ℕ, ◌/◌}
 use mathlib.Core.Path.{◌≡◌, ◌∙◌, ap}
 use lib.ListN.{length}
 use Rattle.layout.specs.Reading.{raster_rejection}
-use Rattle.decode_raster.specs.laws.Whole.{rejected_bytes, has_room_bytes, read-whole-bytes}
+use Rattle.decode_raster.proofs.Laws.Whole.{rejected_bytes, has_room_bytes, read-whole-bytes}
 use borrow.Author.Rules.{rules}
 use Rattle.decode_raster_bytes.proofs.read_raster_bytes.Statement.{statement}
 use Rattle.decode_raster_bytes.proofs.read_raster_bytes.Tie as tie

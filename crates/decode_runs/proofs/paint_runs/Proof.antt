@@ -6,10 +6,10 @@ use Prim.Native.Nat.{◌+◌, ◌-◌, ◌≤◌, zero-le}
 use mathlib.Core.Path.{◌≡◌, refl, ◌∙◌, ap}
 use Rattle.units.specs.Over.{over}
 use Rattle.units.specs.Words.{words, words_to_bytes}
-use Rattle.units.specs.laws.Over.{sets_over}
-use Rattle.slices.specs.laws.Painting.{run_next}
+use Rattle.units.proofs.Laws.Over.{sets_over}
+use Rattle.slices.proofs.Laws.Painting.{run_next}
 use Rattle.codec.specs.RunPixels.{run_pixels}
-use Rattle.codec.specs.laws.RunReading.{pixels-step, pixels-none}
+use Rattle.codec.proofs.Laws.RunReading.{pixels-step, pixels-none}
 use Rattle.decode_runs.proofs.paint_runs.Statement.{statement}
 use Rattle.decode_runs.proofs.paint_runs.Tie as tie
 

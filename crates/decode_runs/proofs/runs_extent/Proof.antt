@@ -7,7 +7,7 @@ use lib.ListN.{length, drop}
 use native.Mathlib.Omega.{arith}
 use Prim.Native.Nat.{◌-◌, ◌≤◌, zero-le}
 use mathlib.Core.Path.{◌≡◌, refl, sym, ◌∙◌}
-use Rattle.codec.specs.laws.RunReading.{level, extent_none, extent_above, extent_last, extent_next}
+use Rattle.codec.proofs.Laws.RunReading.{level, extent_none, extent_above, extent_last, extent_next}
 use Rattle.codec.specs.RunPixels.{runs_from, run_extent}
 use Rattle.units.specs.Words.{words}
 use Rattle.decode_runs.proofs.runs_extent.Statement.{statement}

@@ -3,7 +3,7 @@ use lib.ListN.{length, drop}
 use native.Mathlib.Omega.{arith}
 use Prim.Native.Nat.{◌+◌, ◌%◌, ◌-◌, ◌≤◌, zero-le}
 use mathlib.Core.Path.{◌≡◌, refl, sym}
-use Rattle.codec.specs.laws.RunReading.{total_step, total_none, status_even, status_above, status_below, status_good}
+use Rattle.codec.proofs.Laws.RunReading.{total_step, total_none, status_even, status_above, status_below, status_good}
 use Rattle.codec.specs.RunPixels.{run_total}
 use Rattle.units.specs.Words.{words, word_count}
 use Rattle.decode_runs.proofs.runs_status.Statement.{statement}

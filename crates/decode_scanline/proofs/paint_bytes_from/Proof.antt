@@ -6,7 +6,7 @@ use lib.Seq.{length-take-le}
 use borrow.Author.Rules.{rules}
 use Rattle.units.specs.Counts.{word_bytes}
 use Rattle.codec.specs.Table.{body_pixels}
-use Rattle.decode_scanline.specs.laws.Partway.{bytes_painted, whole_painted}
+use Rattle.decode_scanline.proofs.Laws.Partway.{bytes_painted, whole_painted}
 use Rattle.decode_scanline.proofs.paint_bytes_from.Statement.{statement}
 use Rattle.decode_scanline.proofs.paint_bytes_from.Tie as tie
 

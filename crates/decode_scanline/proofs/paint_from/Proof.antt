@@ -4,7 +4,7 @@ use mathlib.Core.Path.{sym}
 use lib.Seq.{length-take-le}
 use borrow.Author.Rules.{rules}
 use Rattle.codec.specs.Table.{body_pixels}
-use Rattle.decode_scanline.specs.laws.Partway.{tail_painted}
+use Rattle.decode_scanline.proofs.Laws.Partway.{tail_painted}
 use Rattle.decode_scanline.proofs.paint_from.Statement.{statement}
 use Rattle.decode_scanline.proofs.paint_from.Tie as tie
 

@@ -2,9 +2,9 @@ use native.Mathlib.Omega.{arith}
 use mathlib.Core.Path.{refl, sym, ◌∙◌}
 use lib.ListN.{length}
 use borrow.Author.Rules.{rules}
-use Rattle.layout.specs.laws.Line.{used_within}
-use Rattle.scan_scanline.specs.laws.Body.{GoodBody, blank-line, good_line}
-use Rattle.decode_scanline.specs.laws.Painted.{painted_line}
+use Rattle.layout.proofs.Laws.Line.{used_within}
+use Rattle.scan_scanline.proofs.Laws.Body.{GoodBody, blank-line, good_line}
+use Rattle.decode_scanline.proofs.Laws.Painted.{painted_line}
 use Rattle.layout.specs.Scanline.{reading_of}
 use Rattle.decode_scanline.proofs.read_scanline.Statement.{statement}
 use Rattle.decode_scanline.proofs.read_scanline.Tie as tie

@@ -9,10 +9,10 @@ use Rattle.units.specs.Counts.{word_bytes}
 use Rattle.units.specs.Over.{over, zeros}
 use Rattle.units.specs.Words.{word_count, words_to_bytes}
 use Rattle.layout.specs.Scanline.{step_of, reading_of}
-use Rattle.layout.specs.laws.Line.{used_within}
+use Rattle.layout.proofs.Laws.Line.{used_within}
 use Rattle.scan_scanline.specs.Answer.{IsScan}
-use Rattle.scan_scanline.specs.laws.Body.{GoodBody, blank-line, good_line}
-use Rattle.decode_scanline.specs.laws.Painted.{painted_bytes, cleared_bytes}
+use Rattle.scan_scanline.proofs.Laws.Body.{GoodBody, blank-line, good_line}
+use Rattle.decode_scanline.proofs.Laws.Painted.{painted_bytes, cleared_bytes}
 use Rattle.decode_scanline.proofs.read_scanline_bytes.Statement.{statement}
 use Rattle.decode_scanline.proofs.read_scanline_bytes.Tie as tie
 

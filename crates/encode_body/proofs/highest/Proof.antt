@@ -1,5 +1,5 @@
 use Rattle.codec.specs.Table.{codec_of}
-use Rattle.codec.specs.laws.Table.{no_codec_lem}
+use Rattle.codec.proofs.Laws.Table.{no_codec_lem}
 use Rattle.encode_body.proofs.highest.Statement.{statement}
 use Rattle.encode_body.proofs.highest.Tie as tie
 

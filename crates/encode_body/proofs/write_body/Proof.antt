@@ -1,7 +1,7 @@
 use borrow.Author.Rules.{rules}
 use Rattle.codec.specs.Table.{codec_of}
-use Rattle.codec.specs.laws.Table.{no_codec_lem}
-use Rattle.encode_body.specs.laws.ByType.{no_body}
+use Rattle.codec.proofs.Laws.Table.{no_codec_lem}
+use Rattle.encode_body.proofs.Laws.ByType.{no_body}
 use Rattle.encode_body.proofs.write_body.Statement.{statement}
 use Rattle.encode_body.proofs.write_body.Tie as tie
 

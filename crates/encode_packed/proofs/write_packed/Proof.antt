@@ -1,7 +1,7 @@
 use mathlib.Core.List.{List}
 use mathlib.Core.Logic.{⊎_elim}
 use borrow.Author.Tests.{ltb-true, ltb-false}
-use Rattle.units.specs.laws.Parts.{rest_is}
+use Rattle.units.proofs.Laws.Parts.{rest_is}
 use Rattle.units.specs.Words.{two_bytes}
 use Rattle.packing.specs.Packing.{number}
 use lib.ListN.{length, drop}
@@ -9,8 +9,8 @@ use lib.Seq.{sets, length-sets}
 use Prim.Native.Nat.{ℕ, ◌-◌}
 use mathlib.Core.Path.{◌≡◌, refl, sym, ◌∙◌, ap}
 use Rattle.units.specs.Over.{over}
-use Rattle.units.specs.laws.Over.{sets_over, sets_past}
-use Rattle.packing.specs.laws.Writing.{body_from, length-body, body_next, body_end}
+use Rattle.units.proofs.Laws.Over.{sets_over, sets_past}
+use Rattle.packing.proofs.Laws.Writing.{body_from, length-body, body_next, body_end}
 use Rattle.codec.specs.PackedPixels.{packed_body}
 use borrow.Author.Rules.{rules}
 use native.Mathlib.Omega.{arith}

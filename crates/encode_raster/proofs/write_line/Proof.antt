@@ -1,6 +1,6 @@
 use Rattle.std.proofs.Common.{◌+◌, ◌≤◌, length, arith, rules}
 use Rattle.codec.specs.Table.{body_bytes}
-use Rattle.encode_raster.specs.laws.Line.{line_open, headed_room, line-headed}
+use Rattle.encode_raster.proofs.Laws.Line.{line_open, headed_room, line-headed}
 use Rattle.encode_raster.proofs.write_line.Statement.{statement}
 use Rattle.encode_raster.proofs.write_line.Tie as tie
 

@@ -1,9 +1,9 @@
 use Rattle.std.proofs.Common.{◌≡◌, ℕ, ◌+◌, ◌-◌, ◌*◌, ◌%◌, ◌≤◌, length, sym, ap, ◌∙◌, arith, rules}
-use Rattle.units.specs.laws.Parts.{row_within}
+use Rattle.units.proofs.Laws.Parts.{row_within}
 use Rattle.numbering.specs.Numbering.{written_number}
-use Rattle.numbering.specs.laws.Numbering.{written-first, written_next}
-use Rattle.encode_raster.specs.laws.Lines.{LinesAt, Turn, lines_first, turn, lines_done}
-use Rattle.encode_raster.specs.laws.Answer.{bare}
+use Rattle.numbering.proofs.Laws.Numbering.{written-first, written_next}
+use Rattle.encode_raster.proofs.Laws.Lines.{LinesAt, Turn, lines_first, turn, lines_done}
+use Rattle.encode_raster.proofs.Laws.Answer.{bare}
 use Rattle.encode_raster.proofs.write_lines.Statement.{statement}
 use Rattle.encode_raster.proofs.write_lines.Tie as tie
 

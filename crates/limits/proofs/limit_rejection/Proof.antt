@@ -1,7 +1,7 @@
 use mathlib.Core.List.{◌++◌}
 use borrow.Author.Rules.{rules}
 use Rattle.limits.specs.Limits.{type_rules, slo_rules, scn_rules, ppl_rules, nol_rules}
-use Rattle.units.specs.laws.Rules.{by_either}
+use Rattle.units.proofs.Laws.Rules.{by_either}
 use Rattle.limits.proofs.limit_rejection.Statement.{statement}
 use Rattle.limits.proofs.limit_rejection.Tie as tie
 

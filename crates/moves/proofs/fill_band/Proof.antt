@@ -5,9 +5,9 @@ use native.Mathlib.Omega.{arith}
 use lib.ListN.{length}
 use borrow.Author.Rules.{rules}
 use borrow.Rule.Slice.PartMut.{mid_len}
-use Rattle.moves.specs.laws.Grid.{mirror_below, rows_apart}
-use Rattle.moves.specs.laws.Picture.{column_pixel}
-use Rattle.moves.specs.laws.Filling.{Filled, band_first, band_last, run-kept, run_more}
+use Rattle.moves.proofs.Laws.Grid.{mirror_below, rows_apart}
+use Rattle.moves.proofs.Laws.Picture.{column_pixel}
+use Rattle.moves.proofs.Laws.Filling.{Filled, band_first, band_last, run-kept, run_more}
 use Rattle.moves.proofs.fill_band.Statement.{statement}
 use Rattle.moves.proofs.fill_band.Tie as tie
 

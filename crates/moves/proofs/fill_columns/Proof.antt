@@ -3,8 +3,8 @@ use mathlib.Core.Path.{◌≡◌, refl, ◌∙◌}
 use native.Mathlib.Omega.{arith}
 use lib.ListN.{length}
 use borrow.Author.Rules.{rules}
-use Rattle.moves.specs.laws.Picture.{column_pixel}
-use Rattle.moves.specs.laws.Filling.{Filled, filled_none, filled_all}
+use Rattle.moves.proofs.Laws.Picture.{column_pixel}
+use Rattle.moves.proofs.Laws.Filling.{Filled, filled_none, filled_all}
 use Rattle.moves.proofs.fill_columns.Statement.{statement}
 use Rattle.moves.proofs.fill_columns.Tie as tie
 

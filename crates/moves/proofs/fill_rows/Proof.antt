@@ -6,9 +6,9 @@ use lib.ListN.{length, take, drop, length-drop}
 use lib.Seq.{length-take-le}
 use borrow.Author.Rules.{rules}
 use borrow.Rule.Slice.PartMut.{mid_len}
-use Rattle.moves.specs.laws.Grid.{mirror_below, rows_apart}
-use Rattle.moves.specs.laws.Picture.{row_pixel, picture}
-use Rattle.moves.specs.laws.Rows.{picture-none, rows-length, row_more}
+use Rattle.moves.proofs.Laws.Grid.{mirror_below, rows_apart}
+use Rattle.moves.proofs.Laws.Picture.{row_pixel, picture}
+use Rattle.moves.proofs.Laws.Rows.{picture-none, rows-length, row_more}
 use Rattle.moves.proofs.fill_rows.Statement.{statement}
 use Rattle.moves.proofs.fill_rows.Tie as tie
 

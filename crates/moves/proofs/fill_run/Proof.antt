@@ -5,8 +5,8 @@ use native.Mathlib.Omega.{arith}
 use lib.ListN.{length, get_or}
 use borrow.Author.Rules.{rules}
 use Rattle.moves.specs.Moves.{mirror}
-use Rattle.moves.specs.laws.Grid.{mirror_below, cell_below}
-use Rattle.moves.specs.laws.Filling.{Stored, stored-none, stored_more, stored_all}
+use Rattle.moves.proofs.Laws.Grid.{mirror_below, cell_below}
+use Rattle.moves.proofs.Laws.Filling.{Stored, stored-none, stored_more, stored_all}
 use Rattle.moves.proofs.fill_run.Statement.{statement}
 use Rattle.moves.proofs.fill_run.Tie as tie
 

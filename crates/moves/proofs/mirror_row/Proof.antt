@@ -1,5 +1,5 @@
 use borrow.Author.Rules.{rules}
-use Rattle.moves.specs.laws.Grid.{mirror_down, mirror_up}
+use Rattle.moves.proofs.Laws.Grid.{mirror_down, mirror_up}
 use Rattle.moves.proofs.mirror_row.Statement.{statement}
 use Rattle.moves.proofs.mirror_row.Tie as tie
 

@@ -1,7 +1,7 @@
 use mathlib.Core.Path.{sym}
 use borrow.Author.Rules.{rules}
-use Rattle.units.specs.laws.Numbers.{product_fits}
-use Rattle.moves.specs.laws.Picture.{short_input, short_output, rows-moved, columns_moved}
+use Rattle.units.proofs.Laws.Numbers.{product_fits}
+use Rattle.moves.proofs.Laws.Picture.{short_input, short_output, rows-moved, columns_moved}
 use Rattle.moves.proofs.move_pixels.Statement.{statement}
 use Rattle.moves.proofs.move_pixels.Tie as tie
 

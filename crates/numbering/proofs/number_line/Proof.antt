@@ -1,7 +1,7 @@
 use mathlib.Core.Path.{sym}
 use native.Mathlib.Omega.{arith}
 use borrow.Author.Rules.{rules}
-use Rattle.numbering.specs.laws.Numbering.{number-low, met_elsewhere}
+use Rattle.numbering.proofs.Laws.Numbering.{number-low, met_elsewhere}
 use Rattle.numbering.proofs.number_line.Statement.{statement}
 use Rattle.numbering.proofs.number_line.Tie as tie
 

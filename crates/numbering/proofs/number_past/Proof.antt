@@ -1,5 +1,5 @@
 use borrow.Author.Rules.{rules}
-use Rattle.numbering.specs.laws.Numbering.{number-from-one, number-from-zero}
+use Rattle.numbering.proofs.Laws.Numbering.{number-from-one, number-from-zero}
 use Rattle.numbering.proofs.number_past.Statement.{statement}
 use Rattle.numbering.proofs.number_past.Tie as tie
 

@@ -4,8 +4,8 @@ use lib.ListN.{length}
 use borrow.Author.Rules.{rules}
 use borrow.Author.Tests.{ne_eqb}
 use Rattle.orient.specs.Turning.{turn_rejection}
-use Rattle.orient.specs.laws.Moving.{by_rows, by_columns, back_by_columns}
-use Rattle.orient.specs.laws.Turning.{has_room}
+use Rattle.orient.proofs.Laws.Moving.{by_rows, by_columns, back_by_columns}
+use Rattle.orient.proofs.Laws.Turning.{has_room}
 use Rattle.orient.proofs.turn_either.Statement.{statement}
 use Rattle.orient.proofs.turn_either.Tie as tie
 

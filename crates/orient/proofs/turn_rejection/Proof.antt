@@ -1,7 +1,7 @@
 use mathlib.Core.List.{◌++◌}
 use borrow.Author.Rules.{rules}
-use Rattle.units.specs.laws.Numbers.{product_fits}
-use Rattle.units.specs.laws.Rules.{by_either}
+use Rattle.units.proofs.Laws.Numbers.{product_fits}
+use Rattle.units.proofs.Laws.Rules.{by_either}
 use Rattle.limits.specs.Limits.{slo_rules, ppl_rules, nol_rules}
 use Rattle.orient.specs.Turning.{read_rules, filled_rules, turn_rejection}
 use Rattle.orient.proofs.turn_rejection.Statement.{statement}

@@ -1,8 +1,8 @@
 use Prim.Native.Nat.{◌+◌, ◌*◌, ◌/◌, ◌%◌}
 use mathlib.Core.Path.{◌≡◌}
 use Rattle.packing.specs.Packing.{number}
-use Rattle.packing.specs.laws.Lanes.{sixteen}
-use Rattle.packing.specs.laws.Numbers.{number_lt}
+use Rattle.packing.proofs.Laws.Lanes.{sixteen}
+use Rattle.packing.proofs.Laws.Numbers.{number_lt}
 use borrow.Author.Rules.{rules}
 use Rattle.packing.proofs.first_word.Statement.{statement}
 use Rattle.packing.proofs.first_word.Tie as tie

@@ -1,5 +1,5 @@
 use mathlib.Core.Path.{◌∙◌}
-use Rattle.packing.specs.laws.Lanes.{lanes_masked}
+use Rattle.packing.proofs.Laws.Lanes.{lanes_masked}
 use borrow.Author.Rules.{rules}
 use Rattle.packing.proofs.four.Statement.{statement}
 use Rattle.packing.proofs.four.Tie as tie

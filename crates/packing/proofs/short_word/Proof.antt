@@ -1,7 +1,7 @@
 use Prim.Native.Nat.{◌≤◌, ◌-◌, zero-le}
 use mathlib.Core.Path.{◌≡◌, refl}
 use Rattle.packing.specs.Packing.{number}
-use Rattle.packing.specs.laws.Lanes.{number_more, number_room}
+use Rattle.packing.proofs.Laws.Lanes.{number_more, number_room}
 use borrow.Author.Rules.{rules}
 use native.Mathlib.Omega.{arith}
 use Rattle.packing.proofs.short_word.Statement.{statement}

@@ -5,8 +5,8 @@ use Prim.Native.Nat.{◌≤◌}
 use mathlib.Core.Path.{◌≡◌, refl, sym, ◌∙◌, ap}
 use borrow.Author.Rules.{rules}
 use Rattle.round_trip.specs.Call.{BothCalls}
-use Rattle.encode_raster.specs.laws.Call.{number_is, number-from, size_fits, length_after}
-use Rattle.round_trip.specs.laws.Call.{given_back}
+use Rattle.encode_raster.proofs.Laws.Call.{number_is, number-from, size_fits, length_after}
+use Rattle.round_trip.proofs.Laws.Call.{given_back}
 use Rattle.layout.specs.Reading.{RasterNumbers}
 use Rattle.encode_raster.specs.Answer.{picture}
 use Rattle.encode_header.specs.Picture.{Picture}

@@ -5,7 +5,7 @@ use native.Mathlib.Omega.{arith}
 use lib.ListN.{length, drop, length-set}
 use lib.Seq.{sets}
 use Rattle.units.specs.Over.{over}
-use Rattle.units.specs.laws.Over.{sets_over, sets-step, sets_end}
+use Rattle.units.proofs.Laws.Over.{sets_over, sets-step, sets_end}
 use Rattle.slices.proofs.copy.Statement.{statement}
 use Rattle.slices.proofs.copy.Tie as tie
 

@@ -6,8 +6,8 @@ use lib.ListN.{length, replicate, length-append}
 use lib.Seq.{sets, take_all}
 use Rattle.units.specs.LittleEndian.{u32_bytes}
 use Rattle.units.specs.Words.{words_to_bytes}
-use Rattle.units.specs.laws.Over.{sets-append, sets_over, over_full}
-use Rattle.units.specs.laws.Stores.{length-bytes}
+use Rattle.units.proofs.Laws.Over.{sets-append, sets_over, over_full}
+use Rattle.units.proofs.Laws.Stores.{length-bytes}
 use borrow.Author.Rules.{rules}
 use Rattle.slices.proofs.fill_eight.Statement.{statement}
 use Rattle.slices.proofs.fill_eight.Tie as tie

@@ -6,9 +6,9 @@ use lib.ListN.{length, replicate, length-replicate}
 use Rattle.units.specs.Counts.{word_bytes}
 use Rattle.units.specs.Over.{over, zeros}
 use Rattle.units.specs.Words.{words_to_bytes}
-use Rattle.units.specs.laws.Over.{over_full}
-use Rattle.units.specs.laws.Stores.{zero-bytes}
-use Rattle.slices.specs.laws.Painting.{take_same}
+use Rattle.units.proofs.Laws.Over.{over_full}
+use Rattle.units.proofs.Laws.Stores.{zero-bytes}
+use Rattle.slices.proofs.Laws.Painting.{take_same}
 use borrow.Author.Rules.{rules}
 use Rattle.slices.proofs.fill_pixels.Statement.{statement}
 use Rattle.slices.proofs.fill_pixels.Tie as tie

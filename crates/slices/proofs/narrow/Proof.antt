@@ -6,8 +6,8 @@ use lib.ListN.{length, drop, length-set}
 use lib.Seq.{sets}
 use Rattle.units.specs.LittleEndian.{low_bytes}
 use Rattle.units.specs.Over.{over}
-use Rattle.units.specs.laws.LittleEndian.{length-low, get_or-low}
-use Rattle.units.specs.laws.Over.{sets_over, sets-step, sets_end}
+use Rattle.units.proofs.Laws.LittleEndian.{length-low, get_or-low}
+use Rattle.units.proofs.Laws.Over.{sets_over, sets-step, sets_end}
 use Rattle.slices.proofs.narrow.Statement.{statement}
 use Rattle.slices.proofs.narrow.Tie as tie
 

@@ -3,8 +3,8 @@ use mathlib.Core.Path.{◌≡◌, sym, ◌∙◌, ap}
 use native.Mathlib.Omega.{arith}
 use lib.ListN.{length, replicate, length-replicate}
 use borrow.Rule.Slice.PartMut.{mid_of, mid_len}
-use Rattle.units.specs.laws.Over.{sets_past}
-use Rattle.slices.specs.laws.Painting.{part_stored, take_same}
+use Rattle.units.proofs.Laws.Over.{sets_past}
+use Rattle.slices.proofs.Laws.Painting.{part_stored, take_same}
 use borrow.Author.Rules.{rules}
 use Rattle.slices.proofs.put_run.Statement.{statement}
 use Rattle.slices.proofs.put_run.Tie as tie

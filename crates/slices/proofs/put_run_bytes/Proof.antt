@@ -8,10 +8,10 @@ use borrow.Author.Tests.{leb-true}
 use borrow.Rule.Slice.PartMut.{mid_of, mid_len}
 use Rattle.units.specs.Counts.{word_bytes}
 use Rattle.units.specs.Words.{words_to_bytes}
-use Rattle.units.specs.laws.Over.{sets_past, over_full}
-use Rattle.units.specs.laws.Rules.{both_true}
-use Rattle.units.specs.laws.Stores.{length-bytes, take-same_bytes}
-use Rattle.slices.specs.laws.Painting.{part_stored}
+use Rattle.units.proofs.Laws.Over.{sets_past, over_full}
+use Rattle.units.proofs.Laws.Rules.{both_true}
+use Rattle.units.proofs.Laws.Stores.{length-bytes, take-same_bytes}
+use Rattle.slices.proofs.Laws.Painting.{part_stored}
 use borrow.Author.Rules.{rules}
 use Rattle.slices.proofs.put_run_bytes.Statement.{statement}
 use Rattle.slices.proofs.put_run_bytes.Tie as tie

@@ -9,8 +9,8 @@ use lib.Seq.{paste, take-length, length-take-le}
 use borrow.Rule.Slice.PartMut.{mid_of, put_mid, mid_len}
 use borrow.Author.Rules.{rules}
 use Rattle.units.specs.Over.{over}
-use Rattle.units.specs.laws.Over.{over_fits}
-use Rattle.units.specs.laws.Parts.{put_next}
+use Rattle.units.proofs.Laws.Over.{over_fits}
+use Rattle.units.proofs.Laws.Parts.{put_next}
 use Rattle.text.proofs.put.Statement.{statement}
 use Rattle.text.proofs.put.Tie as tie
 

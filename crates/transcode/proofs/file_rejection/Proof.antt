@@ -1,7 +1,7 @@
 use mathlib.Core.Path.{◌∙◌, ap}
 use borrow.Author.Rules.{rules}
 use Rattle.units.specs.Rules.{first}
-use Rattle.units.specs.laws.Rules.{by_first, by_second}
+use Rattle.units.proofs.Laws.Rules.{by_first, by_second}
 use Rattle.header.specs.Rejections.{rules_to22, rejection_to22}
 use Rattle.layout.specs.Chain.{Raster, sheet_of}
 use Rattle.transcode_parts.specs.Rules.{unmoved_rules}

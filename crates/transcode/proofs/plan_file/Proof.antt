@@ -1,6 +1,6 @@
 use borrow.Author.Rules.{rules}
 use Rattle.layout.specs.Chain.{raster_of}
-use Rattle.transcode.specs.laws.Survey.{planned}
+use Rattle.transcode.proofs.Laws.Survey.{planned}
 use Rattle.transcode.proofs.plan_file.Statement.{statement}
 use Rattle.transcode.proofs.plan_file.Tie as tie
 

@@ -5,7 +5,7 @@ use native.Mathlib.Omega.{arith}
 use borrow.Author.Rules.{rules}
 use Rattle.codec.specs.Table.{body_bytes}
 use Rattle.layout.specs.Scanline.{head_of}
-use Rattle.transcode.specs.laws.Writing.{line_open, headed_room, line-headed}
+use Rattle.transcode.proofs.Laws.Writing.{line_open, headed_room, line-headed}
 use Rattle.transcode.proofs.put_line.Statement.{statement}
 use Rattle.transcode.proofs.put_line.Tie as tie
 

@@ -4,7 +4,7 @@ use Prim.Native.Nat.{ℕ}
 use lib.ListN.{length}
 use borrow.Author.Rules.{rules}
 use Rattle.codec.specs.Table.{body_bytes}
-use Rattle.transcode.specs.laws.Survey.{partway_by}
+use Rattle.transcode.proofs.Laws.Survey.{partway_by}
 use Rattle.transcode.proofs.survey_line.Statement.{statement}
 use Rattle.transcode.proofs.survey_line.Tie as tie
 

@@ -4,7 +4,7 @@ use lib.ListN.{length}
 use native.Mathlib.Omega.{arith}
 use borrow.Author.Rules.{rules}
 use Rattle.layout.specs.Chain.{raster_of}
-use Rattle.transcode.specs.laws.Survey.{SurveyAt, survey_first, row_kept, survey_refused, used_within, body_most, survey_next, survey_done}
+use Rattle.transcode.proofs.Laws.Survey.{SurveyAt, survey_first, row_kept, survey_refused, used_within, body_most, survey_next, survey_done}
 use Rattle.transcode.proofs.survey_lines.Statement.{statement}
 use Rattle.transcode.proofs.survey_lines.Tie as tie
 

@@ -4,7 +4,7 @@ use lib.ListN.{length}
 use lib.Seq.{length-take-le}
 use native.Mathlib.Omega.{arith}
 use borrow.Author.Rules.{rules}
-use Rattle.transcode.specs.laws.Whole.{by_file, width}
+use Rattle.transcode.proofs.Laws.Whole.{by_file, width}
 use Rattle.transcode.proofs.transcode_by.Statement.{statement}
 use Rattle.transcode.proofs.transcode_by.Tie as tie
 

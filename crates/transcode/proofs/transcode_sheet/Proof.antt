@@ -2,7 +2,7 @@ use mathlib.Core.Path.{refl}
 use native.Mathlib.Omega.{arith}
 use borrow.Author.Rules.{rules}
 use Rattle.layout.specs.Chain.{raster_of}
-use Rattle.transcode.specs.laws.Whole.{Carried, layout_ready, header-length, not_planned, header_carried}
+use Rattle.transcode.proofs.Laws.Whole.{Carried, layout_ready, header-length, not_planned, header_carried}
 use Rattle.transcode.proofs.transcode_sheet.Statement.{statement}
 use Rattle.transcode.proofs.transcode_sheet.Tie as tie
 

@@ -4,7 +4,7 @@ use lib.ListN.{length}
 use native.Mathlib.Omega.{arith}
 use borrow.Author.Rules.{rules}
 use Rattle.layout.specs.Chain.{raster_of}
-use Rattle.transcode.specs.laws.Writing.{WrittenAt, write_first, at_within, line_fits, used_within, size_within, write_next, write_done}
+use Rattle.transcode.proofs.Laws.Writing.{WrittenAt, write_first, at_within, line_fits, used_within, size_within, write_next, write_done}
 use Rattle.transcode.proofs.write_lines.Statement.{statement}
 use Rattle.transcode.proofs.write_lines.Tie as tie
 

@@ -1,7 +1,7 @@
 use mathlib.Core.Path.{◌≡◌}
 use borrow.Author.Rules.{rules}
 use Rattle.two_c_readings.specs.Call.{outcome, called}
-use Rattle.two_c_readings.specs.laws.Call.{two_outcomes}
+use Rattle.two_c_readings.proofs.Laws.Call.{two_outcomes}
 use Rattle.two_c_readings.proofs.call_two.Statement.{statement}
 use Rattle.two_c_readings.proofs.call_two.Tie as tie
 

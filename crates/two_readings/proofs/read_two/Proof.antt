@@ -1,6 +1,6 @@
 use borrow.Author.Rules.{rules}
 use Rattle.two_readings.specs.Call.{ReadingOf}
-use Rattle.two_readings.specs.laws.Call.{two_calls}
+use Rattle.two_readings.proofs.Laws.Call.{two_calls}
 use Rattle.two_readings.proofs.read_two.Statement.{statement}
 use Rattle.two_readings.proofs.read_two.Tie as tie
 

@@ -5,10 +5,10 @@ use lib.Seq.{length-take-le}
 use native.Mathlib.Omega.{arith}
 use borrow.Author.Rules.{rules}
 use Rattle.layout.specs.Reading.{RasterNumbers}
-use Rattle.transcode.specs.laws.Call.{number-from, size_fits, length_after}
+use Rattle.transcode.proofs.Laws.Call.{number-from, size_fits, length_after}
 use Rattle.two_transcodings.specs.declared.MovedReading.{MovedReading}
 use Rattle.two_transcodings.specs.Call.{MovedAndRead}
-use Rattle.two_transcodings.specs.laws.Call.{same_reading}
+use Rattle.two_transcodings.proofs.Laws.Call.{same_reading}
 use Rattle.two_transcodings.proofs.transcode_and_read.Statement.{statement}
 use Rattle.two_transcodings.proofs.transcode_and_read.Tie as tie
 

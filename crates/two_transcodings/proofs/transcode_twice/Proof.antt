@@ -5,10 +5,10 @@ use lib.Seq.{length-take-le}
 use native.Mathlib.Omega.{arith}
 use borrow.Author.Rules.{rules}
 use Rattle.encode_answer.specs.Answer.{write_numbers}
-use Rattle.transcode.specs.laws.Call.{size_fits, length_after}
+use Rattle.transcode.proofs.Laws.Call.{size_fits, length_after}
 use Rattle.two_transcodings.specs.declared.TwoMoves.{TwoMoves}
 use Rattle.two_transcodings.specs.Call.{BothMoves}
-use Rattle.two_transcodings.specs.laws.Call.{packed_back, runs_back}
+use Rattle.two_transcodings.proofs.Laws.Call.{packed_back, runs_back}
 use Rattle.two_transcodings.proofs.transcode_twice.Statement.{statement}
 use Rattle.two_transcodings.proofs.transcode_twice.Tie as tie
 

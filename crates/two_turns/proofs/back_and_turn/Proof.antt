@@ -1,6 +1,6 @@
 use borrow.Author.Rules.{rules}
 use Rattle.two_turns.specs.Call.{TurnCall, TurnBackCall}
-use Rattle.two_turns.specs.laws.Call.{picture-again}
+use Rattle.two_turns.proofs.Laws.Call.{picture-again}
 use Rattle.two_turns.proofs.back_and_turn.Statement.{statement}
 use Rattle.two_turns.proofs.back_and_turn.Tie as tie
 

@@ -1,6 +1,6 @@
 use borrow.Author.Rules.{rules}
 use Rattle.two_turns.specs.Call.{TurnCall, TurnBackCall}
-use Rattle.two_turns.specs.laws.Call.{sheet-again}
+use Rattle.two_turns.proofs.Laws.Call.{sheet-again}
 use Rattle.two_turns.proofs.turn_and_back.Statement.{statement}
 use Rattle.two_turns.proofs.turn_and_back.Tie as tie
 

@@ -1,7 +1,7 @@
 use mathlib.Core.Path.{refl, ◌∙◌}
 use lib.ListN.{replicate}
 use Rattle.packing.specs.Weights.{powers}
-use Rattle.packing.specs.laws.Weights.{either_half}
+use Rattle.packing.proofs.Laws.Weights.{either_half}
 use borrow.Author.Rules.{rules}
 use Rattle.unpacking.proofs.kept_weights.Statement.{statement}
 use Rattle.unpacking.proofs.kept_weights.Tie as tie

@@ -3,9 +3,9 @@ use mathlib.Core.Path.{◌≡◌, refl, sym, ◌∙◌}
 use lib.ListN.{length, length-set}
 use lib.Seq.{sets}
 use Rattle.units.specs.Over.{over}
-use Rattle.units.specs.laws.Over.{sets_over}
+use Rattle.units.proofs.Laws.Over.{sets_over}
 use Rattle.packing.specs.Packing.{bits}
-use Rattle.packing.specs.laws.Weights.{bit_next, bits-end}
+use Rattle.packing.proofs.Laws.Weights.{bit_next, bits-end}
 use borrow.Author.Rules.{rules}
 use native.Mathlib.Omega.{arith}
 use Rattle.unpacking.proofs.put_bits.Statement.{statement}

@@ -3,9 +3,9 @@ use mathlib.Core.Path.{◌≡◌, refl, sym, ◌∙◌}
 use lib.ListN.{length, drop, length-map, length-set}
 use lib.Seq.{sets}
 use Rattle.units.specs.Over.{over}
-use Rattle.units.specs.laws.Over.{sets_over, sets_past, over_all}
+use Rattle.units.proofs.Laws.Over.{sets_over, sets_past, over_all}
 use Rattle.packing.specs.Weights.{pick, picked}
-use Rattle.packing.specs.laws.Weights.{pick_next}
+use Rattle.packing.proofs.Laws.Weights.{pick_next}
 use borrow.Author.Rules.{rules}
 use native.Mathlib.Omega.{arith}
 use Rattle.unpacking.proofs.put_byte.Statement.{statement}

@@ -6,11 +6,11 @@ use lib.Seq.{sets}
 use Rattle.units.specs.LittleEndian.{u16_at}
 use Rattle.units.specs.Over.{over}
 use Rattle.units.specs.Words.{words}
-use Rattle.units.specs.laws.Over.{sets_over}
+use Rattle.units.proofs.Laws.Over.{sets_over}
 use Rattle.packing.specs.Packing.{bits, word_bits}
-use Rattle.packing.specs.laws.Bits.{length-bits}
-use Rattle.packing.specs.laws.Weights.{pixels_next}
-use Rattle.unpacking.specs.laws.Unpacking.{word_next, word_last, length-pixels}
+use Rattle.packing.proofs.Laws.Bits.{length-bits}
+use Rattle.packing.proofs.Laws.Weights.{pixels_next}
+use Rattle.unpacking.proofs.Laws.Unpacking.{word_next, word_last, length-pixels}
 use borrow.Author.Rules.{rules}
 use native.Mathlib.Omega.{arith}
 use Rattle.unpacking.proofs.unpack.Statement.{statement}

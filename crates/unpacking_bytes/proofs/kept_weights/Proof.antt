@@ -2,7 +2,7 @@ use mathlib.Core.Path.{refl, ◌∙◌}
 use lib.ListN.{replicate}
 use Rattle.units.specs.Words.{words_to_bytes}
 use Rattle.packing.specs.Weights.{powers}
-use Rattle.packing.specs.laws.Weights.{either_half}
+use Rattle.packing.proofs.Laws.Weights.{either_half}
 use borrow.Author.Rules.{rules}
 use Rattle.unpacking_bytes.proofs.kept_weights.Statement.{statement}
 use Rattle.unpacking_bytes.proofs.kept_weights.Tie as tie

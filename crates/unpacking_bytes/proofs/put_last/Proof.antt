@@ -2,9 +2,9 @@ use mathlib.Core.Path.{◌≡◌, sym, ◌∙◌}
 use native.Mathlib.Omega.{arith}
 use Rattle.units.specs.Over.{zeros}
 use Rattle.units.specs.Words.{words_to_bytes}
-use Rattle.units.specs.laws.Over.{over_all, sets_over, sets_past}
+use Rattle.units.proofs.Laws.Over.{over_all, sets_over, sets_past}
 use Rattle.packing.specs.Packing.{bits}
-use Rattle.packing.specs.laws.Bits.{length-bits}
+use Rattle.packing.proofs.Laws.Bits.{length-bits}
 use borrow.Author.Rules.{rules}
 use Rattle.unpacking_bytes.proofs.put_last.Statement.{statement}
 use Rattle.unpacking_bytes.proofs.put_last.Tie as tie

@@ -6,8 +6,8 @@ use lib.ListN.{length, get_or, length-map}
 use lib.Seq.{length-take-le}
 use Rattle.units.specs.Words.{words_to_bytes}
 use Rattle.packing.specs.Weights.{powers, pick, picked}
-use Rattle.packing.specs.laws.Weights.{word_picked-bytes}
-use Rattle.unpacking.specs.laws.Unpacking.{both_put}
+use Rattle.packing.proofs.Laws.Weights.{word_picked-bytes}
+use Rattle.unpacking.proofs.Laws.Unpacking.{both_put}
 use borrow.Author.Rules.{rules}
 use Rattle.unpacking_bytes.proofs.put_word.Statement.{statement}
 use Rattle.unpacking_bytes.proofs.put_word.Tie as tie

@@ -6,10 +6,10 @@ use lib.Seq.{sets}
 use Rattle.units.specs.LittleEndian.{u16_at}
 use Rattle.units.specs.Over.{over}
 use Rattle.units.specs.Words.{words, words_to_bytes}
-use Rattle.units.specs.laws.Over.{sets_over}
+use Rattle.units.proofs.Laws.Over.{sets_over}
 use Rattle.packing.specs.Packing.{bits, word_bits}
-use Rattle.packing.specs.laws.Weights.{bytes_next}
-use Rattle.unpacking.specs.laws.Unpacking.{word_next, word_last, length_word, length_pixel_bytes}
+use Rattle.packing.proofs.Laws.Weights.{bytes_next}
+use Rattle.unpacking.proofs.Laws.Unpacking.{word_next, word_last, length_word, length_pixel_bytes}
 use borrow.Author.Rules.{rules}
 use native.Mathlib.Omega.{arith}
 use Rattle.unpacking_bytes.proofs.unpack_bytes.Statement.{statement}

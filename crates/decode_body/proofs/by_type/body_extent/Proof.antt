@@ -1,6 +1,6 @@
 use mathlib.Core.Path.{sym, ◌∙◌}
 use Rattle.codec.specs.Table.{codec_of}
-use Rattle.decode_body.specs.laws.ByType.{no_extent}
+use Rattle.decode_body.proofs.Laws.ByType.{no_extent}
 use borrow.Author.Rules.{rules}
 use Rattle.decode_body.proofs.by_type.body_extent.Statement.{statement}
 use Rattle.decode_body.proofs.by_type.body_extent.Tie as tie

@@ -3,9 +3,9 @@ use mathlib.Core.List.{List}
 use Prim.Native.Nat.{ℕ}
 use Rattle.units.specs.Over.{over}
 use Rattle.units.specs.Words.{words}
-use Rattle.units.specs.laws.Over.{over_nil, over_taken}
+use Rattle.units.proofs.Laws.Over.{over_nil, over_taken}
 use Rattle.codec.specs.Table.{codec_of}
-use Rattle.decode_body.specs.laws.ByType.{no_pixels}
+use Rattle.decode_body.proofs.Laws.ByType.{no_pixels}
 use borrow.Author.Rules.{rules}
 use Rattle.decode_body.proofs.by_type.paint_body.Statement.{statement}
 use Rattle.decode_body.proofs.by_type.paint_body.Tie as tie

@@ -2,9 +2,9 @@ use mathlib.Core.Path.{sym, ◌∙◌}
 use lib.ListN.{length}
 use Rattle.units.specs.Over.{zeros}
 use Rattle.units.specs.Words.{words_to_bytes}
-use Rattle.units.specs.laws.Over.{over_nil}
+use Rattle.units.proofs.Laws.Over.{over_nil}
 use Rattle.codec.specs.Table.{codec_of}
-use Rattle.decode_body.specs.laws.ByType.{no_pixels}
+use Rattle.decode_body.proofs.Laws.ByType.{no_pixels}
 use borrow.Author.Rules.{rules}
 use Rattle.decode_body.proofs.by_type.paint_body_bytes.Statement.{statement}
 use Rattle.decode_body.proofs.by_type.paint_body_bytes.Tie as tie

@@ -6,9 +6,9 @@ use lib.ListN.{length, take}
 use lib.Seq.{length-take-le}
 use Rattle.units.specs.Over.{over, zeros}
 use Rattle.units.specs.Words.{word_count, words_to_bytes}
-use Rattle.units.specs.laws.Over.{take_least}
-use Rattle.units.specs.laws.Stores.{length-bytes}
-use Rattle.slices.specs.laws.Painting.{blank_from, blank_last, blank-over}
+use Rattle.units.proofs.Laws.Over.{take_least}
+use Rattle.units.proofs.Laws.Stores.{length-bytes}
+use Rattle.slices.proofs.Laws.Painting.{blank_from, blank_last, blank-over}
 use borrow.Author.Rules.{rules}
 use Rattle.decode_body.proofs.byte_pixels.paint_byte_bytes.Statement.{statement}
 use Rattle.decode_body.proofs.byte_pixels.paint_byte_bytes.Tie as tie

@@ -7,8 +7,8 @@ use lib.Seq.{length-take-le}
 use Rattle.units.specs.Counts.{word_bytes}
 use Rattle.units.specs.Over.{over, zeros}
 use Rattle.units.specs.Words.{word_count}
-use Rattle.units.specs.laws.Words.{bytes_back}
-use Rattle.slices.specs.laws.Painting.{blank_from, blank_last, blank-over}
+use Rattle.units.proofs.Laws.Words.{bytes_back}
+use Rattle.slices.proofs.Laws.Painting.{blank_from, blank_last, blank-over}
 use borrow.Author.Rules.{rules}
 use Rattle.decode_body.proofs.word_pixels.paint_word_bytes.Statement.{statement}
 use Rattle.decode_body.proofs.word_pixels.paint_word_bytes.Tie as tie

@@ -3,9 +3,9 @@ use lib.ListN.{length, set}
 use mathlib.Core.Logic.{⊎_elim}
 use borrow.Author.Rules.{rules}
 use Rattle.units.specs.LittleEndian.{low_bytes}
-use Rattle.units.specs.laws.LittleEndian.{length-low}
+use Rattle.units.proofs.Laws.LittleEndian.{length-low}
 use Rattle.codec.specs.BytePixels.{byte_body}
-use Rattle.encode_body.specs.laws.Bytes.{body_spare, body_even, body-bare, length_spare, over_spare}
+use Rattle.encode_body.proofs.Laws.Bytes.{body_spare, body_even, body-bare, length_spare, over_spare}
 use Rattle.encode_body.proofs.byte_body.write_bytes.Statement.{statement}
 use Rattle.encode_body.proofs.byte_body.write_bytes.Tie as tie
 

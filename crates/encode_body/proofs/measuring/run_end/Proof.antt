@@ -4,7 +4,7 @@ use native.Mathlib.Omega.{arith}
 use Prim.Native.Nat.{◌-◌, ◌+◌}
 use mathlib.Core.Path.{◌≡◌, refl}
 use Rattle.codec.specs.Leading.{leading}
-use Rattle.codec.specs.laws.Leading.{leading_more, leading_stop, leading_end}
+use Rattle.codec.proofs.Laws.Leading.{leading_more, leading_stop, leading_end}
 use Rattle.encode_body.proofs.measuring.run_end.Statement.{statement}
 use Rattle.encode_body.proofs.measuring.run_end.Tie as tie
 

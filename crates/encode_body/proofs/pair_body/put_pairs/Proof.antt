@@ -5,10 +5,10 @@ use native.Mathlib.Omega.{arith}
 use Prim.Native.Nat.{◌-◌, ◌+◌, ◌*◌}
 use mathlib.Core.List.{[], ◌∷◌}
 use mathlib.Core.Path.{◌≡◌, refl, ap}
-use Rattle.cutting.specs.laws.Rule.{pairs-cut}
+use Rattle.cutting.proofs.Laws.Rule.{pairs-cut}
 use Rattle.units.specs.Words.{words_to_bytes}
 use Rattle.cutting.specs.Pieces.{value_pieces}
-use Rattle.encode_body.specs.laws.Left.{Left, left_word, left_none}
+use Rattle.encode_body.proofs.Laws.Left.{Left, left_word, left_none}
 use Rattle.encode_body.proofs.pair_body.put_pairs.Statement.{statement}
 use Rattle.encode_body.proofs.pair_body.put_pairs.Tie as tie
 

@@ -3,12 +3,12 @@ use lib.ListN.{length, drop, get_or, length-append}
 use native.Mathlib.Omega.{arith}
 use Prim.Native.Nat.{◌-◌, ◌+◌, ◌*◌, ◌≤◌, zero-le}
 use mathlib.Core.Path.{◌≡◌, refl, ap}
-use Rattle.codec.specs.laws.PairWriting.{next_pair, no_pair, length-pair_words}
-use Rattle.units.specs.laws.Stores.{length-bytes}
-use Rattle.codec.specs.laws.Leading.{leading_within}
+use Rattle.codec.proofs.Laws.PairWriting.{next_pair, no_pair, length-pair_words}
+use Rattle.units.proofs.Laws.Stores.{length-bytes}
+use Rattle.codec.proofs.Laws.Leading.{leading_within}
 use Rattle.cutting.specs.Pieces.{value_pieces}
 use Rattle.codec.specs.PairPixels.{pair_body, pair_words}
-use Rattle.encode_body.specs.laws.Left.{Left, left_start, left_more, left_none}
+use Rattle.encode_body.proofs.Laws.Left.{Left, left_start, left_more, left_none}
 use Rattle.units.specs.Over.{over}
 use Rattle.encode_body.proofs.pair_body.write_pairs.Statement.{statement}
 use Rattle.encode_body.proofs.pair_body.write_pairs.Tie as tie

@@ -5,10 +5,10 @@ use lib.ListN.{length}
 use native.Mathlib.Omega.{arith}
 use Prim.Native.Nat.{◌-◌, ◌+◌, ◌*◌}
 use mathlib.Core.Path.{◌≡◌, refl, ap}
-use Rattle.cutting.specs.laws.Rule.{runs_cut}
+use Rattle.cutting.proofs.Laws.Rule.{runs_cut}
 use Rattle.units.specs.Words.{words_to_bytes}
 use Rattle.cutting.specs.Pieces.{level_pieces}
-use Rattle.encode_body.specs.laws.Left.{Left, left_word, left_none}
+use Rattle.encode_body.proofs.Laws.Left.{Left, left_word, left_none}
 use Rattle.encode_body.proofs.run_body.put_run.Statement.{statement}
 use Rattle.encode_body.proofs.run_body.put_run.Tie as tie
 

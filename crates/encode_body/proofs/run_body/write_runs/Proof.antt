@@ -5,11 +5,11 @@ use borrow.Author.Rules.{rules}
 use lib.Seq.{sets}
 use native.Mathlib.Omega.{arith}
 use mathlib.Core.Path.{◌≡◌, refl, ◌∙◌, ap}
-use Rattle.units.specs.laws.Stores.{length-bytes}
-use Rattle.encode_body.specs.laws.Left.{left_start, Left, left_word, left_none, left_more}
-use Rattle.codec.specs.laws.RunWriting.{words_from, first_run, next_run, no_run_on, no_run_off, length-run_words}
+use Rattle.units.proofs.Laws.Stores.{length-bytes}
+use Rattle.encode_body.proofs.Laws.Left.{left_start, Left, left_word, left_none, left_more}
+use Rattle.codec.proofs.Laws.RunWriting.{words_from, first_run, next_run, no_run_on, no_run_off, length-run_words}
 use Rattle.codec.specs.Leading.{leading}
-use Rattle.codec.specs.laws.Leading.{leading_within}
+use Rattle.codec.proofs.Laws.Leading.{leading_within}
 use Rattle.cutting.specs.Pieces.{level_pieces}
 use Rattle.codec.specs.RunPixels.{run_words, run_body}
 use Rattle.units.specs.Words.{words_to_bytes}

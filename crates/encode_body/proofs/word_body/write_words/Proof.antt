@@ -1,6 +1,6 @@
 use native.Mathlib.Omega.{arith}
 use borrow.Author.Rules.{rules}
-use Rattle.units.specs.laws.Stores.{length-bytes}
+use Rattle.units.proofs.Laws.Stores.{length-bytes}
 use Rattle.encode_body.proofs.word_body.write_words.Statement.{statement}
 use Rattle.encode_body.proofs.word_body.write_words.Tie as tie
 

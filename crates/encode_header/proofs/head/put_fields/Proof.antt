@@ -1,6 +1,6 @@
 use mathlib.Core.Path.{◌∙◌}
 use borrow.Author.Rules.{rules}
-use Rattle.encode_header.specs.laws.Header.{with_fields}
+use Rattle.encode_header.proofs.Laws.Header.{with_fields}
 use Rattle.encode_header.proofs.head.put_fields.Statement.{statement}
 use Rattle.encode_header.proofs.head.put_fields.Tie as tie
 

@@ -1,6 +1,6 @@
 use mathlib.Core.Path.{◌∙◌}
 use borrow.Author.Rules.{rules}
-use Rattle.encode_header.specs.laws.Header.{with_floats}
+use Rattle.encode_header.proofs.Laws.Header.{with_floats}
 use Rattle.encode_header.proofs.head.put_floats.Statement.{statement}
 use Rattle.encode_header.proofs.head.put_floats.Tie as tie
 

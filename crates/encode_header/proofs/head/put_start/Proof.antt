@@ -2,8 +2,8 @@ use Prim.Native.Nat.{◌<◌}
 use mathlib.Core.Path.{◌∙◌}
 use native.Mathlib.Omega.{arith}
 use borrow.Author.Rules.{rules}
-use Rattle.units.specs.laws.Stores.{high_byte}
-use Rattle.encode_header.specs.laws.Header.{with_start}
+use Rattle.units.proofs.Laws.Stores.{high_byte}
+use Rattle.encode_header.proofs.Laws.Header.{with_start}
 use Rattle.encode_header.proofs.head.put_start.Statement.{statement}
 use Rattle.encode_header.proofs.head.put_start.Tie as tie
 

@@ -1,6 +1,6 @@
 use native.Mathlib.Omega.{arith}
 use borrow.Author.Rules.{rules}
-use Rattle.encode_header.specs.laws.Header.{blocks_are}
+use Rattle.encode_header.proofs.Laws.Header.{blocks_are}
 use Rattle.encode_header.proofs.head.words_to_follow.Statement.{statement}
 use Rattle.encode_header.proofs.head.words_to_follow.Tie as tie
 

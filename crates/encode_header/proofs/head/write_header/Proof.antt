@@ -1,7 +1,7 @@
 use mathlib.Core.Path.{sym}
 use lib.Seq.{length-take-le}
 use borrow.Author.Rules.{rules}
-use Rattle.encode_header.specs.laws.Header.{header-none, header_put}
+use Rattle.encode_header.proofs.Laws.Header.{header-none, header_put}
 use Rattle.encode_header.proofs.head.write_header.Statement.{statement}
 use Rattle.encode_header.proofs.head.write_header.Tie as tie
 

@@ -1,7 +1,7 @@
 use mathlib.Core.Path.{◌∙◌, ap}
 use Prim.Native.Nat.{◌-◌}
 use lib.IntN.{ℤ, nat_abs}
-use Rattle.encode_header.specs.laws.Resolution.{turned, kept, castable}
+use Rattle.encode_header.proofs.Laws.Resolution.{turned, kept, castable}
 use Rattle.encode_header.proofs.resolution.drs_bits.Statement.{statement}
 use Rattle.encode_header.proofs.resolution.drs_bits.Tie as tie
 

@@ -1,5 +1,5 @@
 use Rattle.std.proofs.Common.{◌≡◌, ◌+◌, ◌-◌, Bool, ◌||◌, length, drop, sym, refl, ap, ◌∙◌, arith, rules}
-use Rattle.encode_raster.specs.laws.Limits.{above_next, above_end}
+use Rattle.encode_raster.proofs.Laws.Limits.{above_next, above_end}
 use Rattle.encode_raster.specs.Writing.{any_above}
 use Rattle.encode_raster.proofs.given.any_above.Statement.{statement}
 use Rattle.encode_raster.proofs.given.any_above.Tie as tie

@@ -1,8 +1,8 @@
 use Rattle.std.proofs.Common.{◌≡◌, ◌++◌, sym, ◌∙◌, rules, le-ltb, lt-ltb}
 use borrow.Author.Tests.{not-true, not-false}
 use Rattle.units.specs.Rules.{first}
-use Rattle.units.specs.laws.Numbers.{product_fits}
-use Rattle.units.specs.laws.Rules.{first_here, first_later}
+use Rattle.units.proofs.Laws.Numbers.{product_fits}
+use Rattle.units.proofs.Laws.Rules.{first_here, first_later}
 use Rattle.limits.specs.Limits.{limit_rules}
 use Rattle.encode_raster.specs.Writing.{length_rules}
 use Rattle.encode_raster.proofs.given.field_rejection.Statement.{statement}

@@ -7,7 +7,7 @@ use Rattle.units.specs.Rules.{Rule, first}
 use Rattle.fields.specs.declared.Fields.{Fields}
 use Rattle.fields.specs.Fields.{fields_of, header_words, header_blocks}
 use Rattle.header.specs.Rejections.{rejection_to22, frame_rules, field_rules, color_table_rules}
-use Rattle.units.specs.laws.Rules.{by_first, by_second}
+use Rattle.units.proofs.Laws.Rules.{by_first, by_second}
 use Rattle.header.proofs.rejection.rejection_to_22.Statement.{statement}
 use Rattle.header.proofs.rejection.rejection_to_22.Tie as tie
 

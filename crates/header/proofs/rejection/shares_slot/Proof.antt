@@ -4,7 +4,7 @@ use borrow.Author.Rules.{rules}
 use Prim.Native.Nat.{ℕ, ◌+◌, ◌-◌}
 use Rattle.header.specs.Rejections.{slot_at, slot_occurs, shares_slot}
 use Rattle.units.specs.Scan.{scan}
-use Rattle.units.specs.laws.Scan.{scan_hit, scan_miss, scan-end}
+use Rattle.units.proofs.Laws.Scan.{scan_hit, scan_miss, scan-end}
 use Rattle.header.proofs.rejection.shares_slot.Statement.{statement}
 use Rattle.header.proofs.rejection.shares_slot.Tie as tie
 

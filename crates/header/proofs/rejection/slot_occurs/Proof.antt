@@ -5,7 +5,7 @@ use borrow.Author.Tests.{eq-eqb, ne_eqb}
 use borrow.Author.Rules.{rules}
 use Prim.Native.Nat.{ℕ, ◌-◌}
 use Rattle.header.specs.Rejections.{slot_at, slot_occurs}
-use Rattle.units.specs.laws.Scan.{scan_hit, scan_miss, scan-end}
+use Rattle.units.proofs.Laws.Scan.{scan_hit, scan_miss, scan-end}
 use Rattle.header.proofs.rejection.slot_occurs.Statement.{statement}
 use Rattle.header.proofs.rejection.slot_occurs.Tie as tie
 

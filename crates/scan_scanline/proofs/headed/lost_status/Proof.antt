@@ -1,7 +1,7 @@
 use native.Mathlib.Omega.{arith}
 use mathlib.Core.Path.{sym}
 use borrow.Author.Rules.{rules}
-use Rattle.layout.specs.laws.Line.{lost_short, lost_identifier, lost-following, lost-body, lost-not}
+use Rattle.layout.proofs.Laws.Line.{lost_short, lost_identifier, lost-following, lost-body, lost-not}
 use Rattle.scan_scanline.proofs.headed.lost_status.Statement.{statement}
 use Rattle.scan_scanline.proofs.headed.lost_status.Tie as tie
 

@@ -1,7 +1,7 @@
 use native.Mathlib.Omega.{arith}
 use mathlib.Core.Path.{sym, ◌∙◌}
 use borrow.Author.Rules.{rules}
-use Rattle.layout.specs.laws.Line.{head_word}
+use Rattle.layout.proofs.Laws.Line.{head_word}
 use Rattle.scan_scanline.proofs.headed.pixel_offset.Statement.{statement}
 use Rattle.scan_scanline.proofs.headed.pixel_offset.Tie as tie
 

@@ -3,7 +3,7 @@ use borrow.Author.Tests.{eq-eqb, ne_eqb, lt-ltb, le-ltb}
 use borrow.Author.Rules.{rules}
 use Rattle.units.specs.LittleEndian.{u16_at}
 use Rattle.layout.specs.Scanline.{head_of, pixel_offset}
-use Rattle.layout.specs.laws.Line.{head_word}
+use Rattle.layout.proofs.Laws.Line.{head_word}
 use Rattle.scan_scanline.proofs.headed.placement_status.Statement.{statement}
 use Rattle.scan_scanline.proofs.headed.placement_status.Tie as tie
 

@@ -10,7 +10,7 @@ use Rattle.units.specs.Counts.{n_bytes, bytes_of_words}
 use Rattle.units.specs.Rules.{first}
 use Rattle.codec.specs.Table.{body_rules}
 use Rattle.layout.specs.Scanline.{body_width, placement_rules, head_of, body_of, following, reading, is_lost, headed_step, headed_reading}
-use Rattle.layout.specs.laws.Line.{lost_by, NotLost, not-lost, is_lost_lem, is_not-lost, head_word, status_lost, status_field, status_body, offset_within}
+use Rattle.layout.proofs.Laws.Line.{lost_by, NotLost, not-lost, is_lost_lem, is_not-lost, head_word, status_lost, status_field, status_body, offset_within}
 use Rattle.scan_scanline.specs.Answer.{IsScan}
 use Rattle.scan_scanline.proofs.headed.scan_headed.Statement.{statement}
 use Rattle.scan_scanline.proofs.headed.scan_headed.Tie as tie

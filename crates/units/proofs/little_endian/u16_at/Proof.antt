@@ -1,7 +1,7 @@
 use borrow.Author.Rules.{rules}
 use mathlib.Core.Path.{sym}
 use Rattle.units.specs.LittleEndian.{u16_at}
-use Rattle.units.specs.laws.LittleEndian.{u16_at_past}
+use Rattle.units.proofs.Laws.LittleEndian.{u16_at_past}
 use Rattle.units.proofs.little_endian.u16_at.Statement.{statement}
 use Rattle.units.proofs.little_endian.u16_at.Tie as tie
 

@@ -1,7 +1,7 @@
 use borrow.Author.Rules.{rules}
 use mathlib.Core.Path.{sym}
 use Rattle.units.specs.LittleEndian.{u32_at}
-use Rattle.units.specs.laws.LittleEndian.{u32_at_past}
+use Rattle.units.proofs.Laws.LittleEndian.{u32_at_past}
 use Rattle.units.proofs.little_endian.u32_at.Statement.{statement}
 use Rattle.units.proofs.little_endian.u32_at.Tie as tie
 

@@ -5,8 +5,8 @@ use lib.ListN.{length, drop, replicate, length-set}
 use lib.Seq.{sets, length-sets}
 use Rattle.units.specs.Over.{over}
 use Rattle.units.specs.Words.{two_bytes, words_to_bytes}
-use Rattle.units.specs.laws.Over.{sets_over}
-use Rattle.units.specs.laws.Stores.{sets_same, same_last}
+use Rattle.units.proofs.Laws.Over.{sets_over}
+use Rattle.units.proofs.Laws.Stores.{sets_same, same_last}
 use borrow.Author.Rules.{rules}
 use Rattle.units.proofs.word_slice.fill_words.Statement.{statement}
 use Rattle.units.proofs.word_slice.fill_words.Tie as tie

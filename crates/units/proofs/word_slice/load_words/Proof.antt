@@ -6,8 +6,8 @@ use lib.Seq.{sets}
 use Rattle.units.specs.LittleEndian.{u16_at}
 use Rattle.units.specs.Over.{over}
 use Rattle.units.specs.Words.{words, word_count}
-use Rattle.units.specs.laws.Over.{sets_over, sets-step, sets_end}
-use Rattle.units.specs.laws.Words.{length-words, word_at}
+use Rattle.units.proofs.Laws.Over.{sets_over, sets-step, sets_end}
+use Rattle.units.proofs.Laws.Words.{length-words, word_at}
 use borrow.Author.Rules.{rules}
 use Rattle.units.proofs.word_slice.load_words.Statement.{statement}
 use Rattle.units.proofs.word_slice.load_words.Tie as tie

@@ -1,8 +1,8 @@
 use mathlib.Core.Path.{sym, ◌∙◌}
 use borrow.Author.Rules.{rules}
 use Rattle.units.specs.LittleEndian.{u32_bytes}
-use Rattle.units.specs.laws.Over.{sets_past}
-use Rattle.units.specs.laws.Stores.{long_bytes}
+use Rattle.units.proofs.Laws.Over.{sets_past}
+use Rattle.units.proofs.Laws.Stores.{long_bytes}
 use Rattle.units.proofs.word_slice.put_long.Statement.{statement}
 use Rattle.units.proofs.word_slice.put_long.Tie as tie
 

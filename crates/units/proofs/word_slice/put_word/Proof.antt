@@ -1,7 +1,7 @@
 use mathlib.Core.Path.{sym, ◌∙◌}
 use native.Mathlib.Numerals.{add-one}
 use Rattle.units.specs.Words.{two_bytes}
-use Rattle.units.specs.laws.Over.{sets_past}
+use Rattle.units.proofs.Laws.Over.{sets_past}
 use borrow.Author.Rules.{rules}
 use Rattle.units.proofs.word_slice.put_word.Statement.{statement}
 use Rattle.units.proofs.word_slice.put_word.Tie as tie

@@ -5,8 +5,8 @@ use lib.ListN.{length, get_or, drop, length-set}
 use lib.Seq.{sets}
 use Rattle.units.specs.Over.{over}
 use Rattle.units.specs.Words.{words_to_bytes}
-use Rattle.units.specs.laws.Over.{sets_over}
-use Rattle.units.specs.laws.Stores.{sets-none, sets_byte, byte_last}
+use Rattle.units.proofs.Laws.Over.{sets_over}
+use Rattle.units.proofs.Laws.Stores.{sets-none, sets_byte, byte_last}
 use borrow.Author.Rules.{rules}
 use Rattle.units.proofs.word_slice.widen_words.Statement.{statement}
 use Rattle.units.proofs.word_slice.widen_words.Tie as tie
