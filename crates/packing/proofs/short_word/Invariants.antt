@@ -1,0 +1,10 @@
+use Rattle.std.proofs.Common.{◌≤◌, ◌-◌, zero-le, ◌≡◌, refl, rules, arith}
+use Rattle.packing.specs.Packing.{number}
+use Rattle.packing.proofs.Laws.Lanes.{number_more, number_room}
+use Rattle.packing.proofs.short_word.Given as goal
+
+abbrev pub invariant-loop-j : goal.invariant-loop-j
+invariant-loop-j l = (l.j ≤ 16) × (l.w ≡ number l.j l.row)
+
+abbrev pub decreases-loop-j : goal.decreases-loop-j
+decreases-loop-j l = 16 - l.j

@@ -1,0 +1,24 @@
+use Rattle.std.proofs.Common.{rules, length, drop, replicate, set, length-set, arith, ℕ, ◌-◌, ◌≤◌, ◌<◌, zero-le, List, ◌++◌, append-nil, ◌≡◌, refl, ◌∙◌, ap}
+use borrow.Author.Fill.{fill_more}
+use lib.Seq.{drop-length}
+use Rattle.slices.proofs.fill.Goals as goal
+
+pub loop-i-init : goal.loop-i-init
+loop-i-init c = (zero-le, refl, refl)
+
+pub loop-i-preserved : goal.loop-i-preserved
+loop-i-preserved c =
+    let l = c.loop-i in
+    let n : l.i < length c.args.row.now = omega arith in (
+      omega arith,
+      length-set l.row l.i c.args.v ∙ l.invariant.1,
+      ap (λ (x : List ℕ). set x l.i c.args.v) l.invariant.2
+          ∙ fill_more l.i c.args.v c.args.row.now n,
+    )
+
+pub returns : goal.returns
+returns c =
+    let l = c.loop-i in
+    let d = c.args.row.now in
+    let e : l.i ≡ length d = omega arith in
+    l.invariant.2 ∙ (rw (e, drop-length d) (append-nil (replicate (length d) c.args.v)))

@@ -1,0 +1,23 @@
+use Rattle.std.proofs.Common.{rules, ◌-◌, ◌≤◌, zero-le, ◌≡◌, refl, sym, ◌∙◌, arith, length, drop, length-set}
+use lib.Seq.{sets}
+use Rattle.units.specs.Over.{over}
+use Rattle.units.proofs.Laws.Over.{sets_over, sets-step, sets_end}
+use Rattle.slices.proofs.widen.Goals as goal
+
+pub loop-i-init : goal.loop-i-init
+loop-i-init c = (zero-le, refl, sets_over _ _)
+
+pub overflow_cast-to : goal.overflow_cast-to
+overflow_cast-to c = omega (arith, c.type_inv.from c.loop-i.i)
+
+pub loop-i-preserved : goal.loop-i-preserved
+loop-i-preserved c =
+    let l = c.loop-i in
+    let s = c.args.from.now in
+    (omega arith, simp length-set (omega arith), sym (sets-step s l.to l.i (omega arith)) ∙ l.invariant.2)
+
+pub returns : goal.returns
+returns c =
+    let l = c.loop-i in
+    let s = c.args.from.now in
+    sym (sets_end s l.to l.i (omega arith)) ∙ l.invariant.2

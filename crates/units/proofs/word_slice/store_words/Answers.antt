@@ -1,0 +1,36 @@
+use Rattle.std.proofs.Common.{◌-◌, ◌*◌, ◌≤◌, zero-le, ◌≡◌, refl, sym, ◌∙◌, arith, length, drop, length-set, rules}
+use lib.Seq.{sets}
+use Rattle.units.specs.Over.{over}
+use Rattle.units.specs.Words.{words_to_bytes}
+use Rattle.units.proofs.Laws.Over.{sets_over}
+use Rattle.units.proofs.Laws.Stores.{sets-none, sets_last, sets_pixel}
+use Rattle.units.proofs.word_slice.store_words.Goals as goal
+
+pub loop-i-init : goal.loop-i-init
+loop-i-init c = (zero-le, refl, sets_over (words_to_bytes _) _)
+
+-- LEFT cast-to-2 : tie.Need-overflow-cast-to-2 invariant-loop decreases-loop
+-- cast-to-2 c = omega (arith, c.shared-slice-known2.given c.before.before.loop.i)
+
+pub bounds-to-i-in-loop-i : goal.bounds-to-i-in-loop-i
+bounds-to-i-in-loop-i c = simp length-set (omega arith)
+
+pub loop-i-preserved : goal.loop-i-preserved
+loop-i-preserved c =
+    let l = c.loop-i in
+    let a = c.args in
+    (omega arith, simp length-set (omega arith), sym (sets_pixel a.from.now l.to l.i (omega arith)) ∙ l.invariant.2)
+
+pub returns-then-n-from : goal.returns-then-n-from
+returns-then-n-from c =
+    let l = c.loop-i in
+    let r = c.args.from.now in
+    let e : l.i ≡ c.lesser-n.result = omega arith in
+    let last = sets_last r l.to l.i (omega arith) (omega arith) in
+    c.put_word.ensures ∙ (rw e at (sym last ∙ l.invariant.2))
+
+pub returns-else-n-from : goal.returns-else-n-from
+returns-else-n-from c =
+    let l = c.loop-i in
+    let r = c.args.from.now in
+    sym (sets-none r l.to l.i (omega arith)) ∙ l.invariant.2
