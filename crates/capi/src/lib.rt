@@ -20,7 +20,7 @@ ghost use Rattle.encode_raster.specs.Answer.{picture};
 ghost use Rattle.transcode.specs.Transcoding.{out_transcoded};
 ghost use Rattle.answers.specs.Answer.{number_bytes, result_of, answer_after, unless_short};
 ghost use Rattle.capi.specs.Calls.{header_size, header_call, c_header, raster_size, c_raster, color_size, color_call, c_color, c_plotter_color, write_size, write_call, c_write, c_move};
-ghost use Rattle.capi.proofs.Laws.Writing.{Told};
+ghost use Rattle.capi.specs.Laws.Writing.{Told};
 
 use answers::store_numbers;
 use color::{ColorAnswer, Rgb, color_of, plotter_color_of};

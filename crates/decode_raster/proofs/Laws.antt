@@ -1,4 +1,3 @@
-pub mod Answer
 pub mod Lines
 pub mod Steps
 pub mod Whole

@@ -9,8 +9,8 @@ ghost use Rattle.limits.specs.Limits.{most_lines};
 ghost use Rattle.layout.specs.Chain.{raster_of};
 ghost use Rattle.layout.specs.Reading.{rejected_raster, raster_rejection, raster_reading, pixels_after, marks_after};
 ghost use Rattle.decode_raster.specs.Answer.{raster_numbers};
-ghost use Rattle.decode_raster.proofs.Laws.Answer.{as_pixels, Fits, ChainAt, Stepped};
-ghost use Rattle.decode_raster.proofs.Laws.Lines.{Done};
+ghost use Rattle.decode_raster.specs.Laws.Answer.{as_pixels, Fits, ChainAt, Stepped};
+ghost use Rattle.decode_raster.specs.Laws.Lines.{Done};
 
 use decode_scanline::read_scanline;
 use header::rejection_to_22;

@@ -9,8 +9,8 @@ ghost use Rattle.limits.specs.Limits.{most_lines};
 ghost use Rattle.layout.specs.Chain.{raster_of};
 ghost use Rattle.layout.specs.PixelBytes.{bytes_reading, pixel_bytes_after, byte_marks_after};
 ghost use Rattle.decode_raster.specs.Answer.{raster_numbers};
-ghost use Rattle.decode_raster.proofs.Laws.Answer.{as_bytes, Fits, ChainAt, Stepped};
-ghost use Rattle.decode_raster.proofs.Laws.Lines.{LinesAt, Done};
+ghost use Rattle.decode_raster.specs.Laws.Answer.{as_bytes, Fits, ChainAt, Stepped};
+ghost use Rattle.decode_raster.specs.Laws.Lines.{LinesAt, Done};
 
 use decode_raster::{Chain, RasterAnswer, raster_rejection};
 use decode_scanline::read_scanline_bytes;

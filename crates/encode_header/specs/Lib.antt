@@ -3,3 +3,4 @@ pub mod Job
 pub mod Picture
 pub mod Positions
 pub mod Resolution
+pub mod Laws

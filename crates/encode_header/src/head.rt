@@ -3,7 +3,7 @@ ghost use Rattle.std.specs.Prelude.{◌≡◌, ◌-◌, length};
 ghost use Rattle.units.specs.Counts.{words_of_blocks};
 ghost use Rattle.encode_header.specs.Header.{ctv_of, blocks_of, header_bytes, header_size};
 ghost use Rattle.encode_header.specs.Job.{picture_of, header_over};
-ghost use Rattle.encode_header.proofs.Laws.Header.{with_start, with_sizes, with_floats, with_fields};
+ghost use Rattle.encode_header.specs.Laws.Header.{with_start, with_sizes, with_floats, with_fields};
 
 use crate::Job;
 use slices::{clear, copy};

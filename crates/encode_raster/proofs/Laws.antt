@@ -1,5 +1,4 @@
 pub mod Accepting
-pub mod Answer
 pub mod Bounds
 pub mod Call
 pub mod Limits

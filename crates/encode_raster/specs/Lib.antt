@@ -2,3 +2,4 @@ pub mod Answer
 pub mod File
 pub mod Positions
 pub mod Writing
+pub mod Laws

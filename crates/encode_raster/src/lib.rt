@@ -15,7 +15,7 @@ ghost use Rattle.encode_raster.specs.File.{line_bytes, lines_of};
 ghost use Rattle.encode_answer.specs.Answer.{write_numbers};
 ghost use Rattle.encode_raster.specs.Writing.{writing, out_after};
 ghost use Rattle.encode_raster.specs.Answer.{picture};
-ghost use Rattle.encode_raster.proofs.Laws.Answer.{bare, head_size, plan_rules, plan_size, Within, Measured, LineFits, LinesFit};
+ghost use Rattle.encode_raster.specs.Laws.Answer.{bare, head_size, plan_rules, plan_size, Within, Measured, LineFits, LinesFit};
 
 use encode_answer::{WriteAnswer, answer_by_size, or_long, rejected};
 use encode_body::{body_size, highest, write_body};

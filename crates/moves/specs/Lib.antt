@@ -1,2 +1,3 @@
 pub mod Moves
 pub mod Tabulate
+pub mod Laws

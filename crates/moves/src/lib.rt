@@ -7,8 +7,8 @@
 ghost use Rattle.std.specs.Prelude.{◌≡◌, ◌+◌, ◌*◌, ◌≤◌, ◌<◌, ◌++◌, length, get_or, drop};
 ghost use Rattle.moves.specs.Tabulate.{tabulate};
 ghost use Rattle.moves.specs.Moves.{mirror, moved_after};
-ghost use Rattle.moves.proofs.Laws.Picture.{row_pixel, column_pixel, picture, line_moved};
-ghost use Rattle.moves.proofs.Laws.Filling.{BandFilled};
+ghost use Rattle.moves.specs.Laws.Picture.{row_pixel, column_pixel, picture, line_moved};
+ghost use Rattle.moves.specs.Laws.Filling.{BandFilled};
 
 // Columns of a band: 128 lines of input take 8 kilobytes of the nearest cache, 64 bytes each.
 const BAND: usize = 128;

@@ -2,3 +2,4 @@ pub mod Corners
 pub mod Orientation
 pub mod Statement
 pub mod Turning
+pub mod Laws

@@ -7,7 +7,7 @@
 ghost use Rattle.std.specs.Prelude.{◌*◌, ◌≡◌, cond, length, ltb};
 ghost use Rattle.orient.specs.Orientation.{bit_set, width, height};
 ghost use Rattle.orient.specs.Turning.{turn_rejection, filled_after, upright_after, pixels_after};
-ghost use Rattle.orient.proofs.Laws.Moving.{either_way};
+ghost use Rattle.orient.specs.Laws.Moving.{either_way};
 
 use limits::{earlier, nol_rejection, ppl_rejection, slo_rejection};
 use moves::move_pixels;

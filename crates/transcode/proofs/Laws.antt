@@ -1,4 +1,3 @@
-pub mod Answer
 pub mod Call
 pub mod Lines
 pub mod Survey

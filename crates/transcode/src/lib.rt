@@ -16,7 +16,7 @@ ghost use Rattle.encode_answer.specs.Answer.{write_numbers};
 ghost use Rattle.transcode_parts.specs.Rules.{unmoved_rules};
 ghost use Rattle.transcode.specs.File.{new_line, new_lines};
 ghost use Rattle.transcode.specs.Transcoding.{line_rules, transcoding, out_transcoded};
-ghost use Rattle.transcode.proofs.Laws.Answer.{old_row, new_size, Movable, Ready, IsSurvey, Surveyed, LineFits, IsWritten, LinesFit};
+ghost use Rattle.transcode.specs.Laws.Answer.{old_row, new_size, Movable, Ready, IsSurvey, Surveyed, LineFits, IsWritten, LinesFit};
 
 use decode_scanline::read_scanline;
 use encode_answer::{WriteAnswer, or_long, rejected};

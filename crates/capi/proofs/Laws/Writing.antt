@@ -8,11 +8,7 @@ use Rattle.encode_answer.specs.Answer.{write_numbers}
 use Rattle.answers.specs.Answer.{number_bytes, result_of, answer_after, unless_short}
 use Rattle.answers.proofs.Laws.Call.{Answered, rejected, stored, changed_if_long}
 use Rattle.capi.specs.Calls.{write_size, write_call}
-
--- a rejection's number is 10 or above, and a length is a number of 32 bits
-pub record Told (w : WriteAnswer) : Type 0 where
-  pub number-from : (w.number ≡ 0 → ⊥) → 10 ≤ w.number
-  pub size_most : w.number ≡ 0 → w.size.0 ≤ 2147483647
+pub use Rattle.capi.specs.Laws.Writing.{Told}
 
 module _ (w : WriteAnswer) (answer : List ℕ) (enough : write_size ≤ length answer) (told : Told w) where
   pub write_rejected : (w.number ≡ 0 → ⊥) → Answered write_size (write_call (write_numbers w)) answer w.number answer

@@ -17,15 +17,8 @@ use Rattle.layout.specs.Chain.{Raster, start, reached, reading_at, rows, statuse
 use Rattle.layout.proofs.Laws.Chain.{reading_unreached, unreached-start, unreached-suc, length-reading, length-statuses, good_suc}
 use Rattle.layout.proofs.Laws.Numbering.{known_first, known_lost}
 use Rattle.decode_raster.specs.declared.Chain.{Chain}
-use Rattle.decode_raster.proofs.Laws.Answer.{Storing, Fits, ChainAt, Stepped}
-
-pub record LinesAt (r : Raster) (s : Storing r.ppl) (pixels₀ marks₀ pixels marks : List ℕ) (c : Chain) (k : ℕ) : Type 0 where
-  pub low : k ≤ r.nol
-  pub chain : ChainAt r k c
-  pub pixels_is : pixels ≡ s.image (rows r k) ++ drop (k * s.width) pixels₀
-  pub marks_is : marks ≡ statuses r k ++ drop k marks₀
-  pub pixels-length : length pixels ≡ length pixels₀
-  pub marks_length : length marks ≡ length marks₀
+use Rattle.decode_raster.specs.Laws.Answer.{Storing, Fits, ChainAt, Stepped}
+pub use Rattle.decode_raster.specs.Laws.Lines.{LinesAt, Done}
 
 -- before the first
 pub lines_first : (r : Raster) (s : Storing r.ppl) (pixels marks : List ℕ)
@@ -92,12 +85,6 @@ module _ (r : Raster) (s : Storing r.ppl) (pixels₀ marks₀ pixels marks : Lis
     where
       ap_chain : ChainAt r (k + 1) d → ChainAt r (suc k) d
       ap_chain y = rw add-one at y
-
--- all are read
-pub record Done (r : Raster) (s : Storing r.ppl) (pixels₀ marks₀ pixels marks : List ℕ) (c : Chain) : Type 0 where
-  pub chain : ChainAt r r.nol c
-  pub pixels_is : pixels ≡ s.image (rows r r.nol) ++ drop (r.nol * s.width) pixels₀
-  pub marks_is : marks ≡ statuses r r.nol ++ drop r.nol marks₀
 
 pub lines_done : (r : Raster) (s : Storing r.ppl) (pixels₀ marks₀ pixels marks : List ℕ) (c : Chain) (k : ℕ)
     → LinesAt r s pixels₀ marks₀ pixels marks c k

@@ -18,7 +18,7 @@ use Rattle.layout.proofs.Laws.Numbering.{RolloverKnown, number_met, known_next, 
 use Rattle.scan_scanline.specs.declared.Scanline.{Scanline}
 use Rattle.scan_scanline.specs.Answer.{IsScan}
 use Rattle.decode_raster.specs.declared.Chain.{Chain}
-use Rattle.decode_raster.proofs.Laws.Answer.{Storing, ChainAt, Stepped}
+use Rattle.decode_raster.specs.Laws.Answer.{Storing, ChainAt, Stepped}
 
 -- the next scanline starts within the bytes
 pub next_within : (r : Raster) (at number : ℕ) (l : Scanline) → at ≤ length r.bytes

@@ -18,7 +18,7 @@ use Rattle.layout.specs.Reading.{buffer_rules, raster_rejection, answer_of, read
 use Rattle.layout.specs.PixelBytes.{bytes_rejection, bytes_reading, pixel_bytes_after, byte_marks_after}
 use Rattle.layout.proofs.Laws.PixelBytes.{bytes_rejection_lem}
 use Rattle.decode_raster.specs.declared.Chain.{Chain}
-use Rattle.decode_raster.proofs.Laws.Answer.{as_pixels, as_bytes, rows-bytes, Fits, ChainAt}
+use Rattle.decode_raster.specs.Laws.Answer.{as_pixels, as_bytes, rows-bytes, Fits, ChainAt}
 use Rattle.decode_raster.proofs.Laws.Lines.{Done}
 
 -- the file's number, or that of the first buffer that is too short

@@ -8,7 +8,7 @@ use Rattle.layout.specs.Chain.{raster_of}
 use Rattle.layout.proofs.Laws.Chain.{start_within, good_most}
 use Rattle.decode_scanline.specs.Answer.{IsLine}
 use Rattle.decode_scanline.proofs.Laws.Painted.{scan-of}
-use Rattle.decode_raster.proofs.Laws.Answer.{as_pixels}
+use Rattle.decode_raster.specs.Laws.Answer.{as_pixels}
 use Rattle.decode_raster.proofs.Laws.Steps.{next_within, one_most, step-lost, number_here, known_after, step_on}
 use borrow.Author.Rules.{rules}
 use Rattle.decode_raster.proofs.read_line.Statement.{statement}

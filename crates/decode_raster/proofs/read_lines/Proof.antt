@@ -4,7 +4,7 @@ use mathlib.Core.Path.{◌≡◌}
 use native.Mathlib.Omega.{arith}
 use lib.ListN.{length}
 use Rattle.layout.specs.Chain.{raster_of}
-use Rattle.decode_raster.proofs.Laws.Answer.{as_pixels}
+use Rattle.decode_raster.specs.Laws.Answer.{as_pixels}
 use Rattle.decode_raster.proofs.Laws.Lines.{LinesAt, lines_first, row_fits, lent_length, lines_next, lines_done}
 use Rattle.decode_raster.proofs.read_lines.Statement.{statement}
 use Rattle.decode_raster.proofs.read_lines.Tie as tie

@@ -9,7 +9,7 @@ use Rattle.layout.specs.Chain.{raster_of}
 use Rattle.layout.proofs.Laws.Chain.{start_within, good_most}
 use Rattle.layout.proofs.Laws.Line.{length-row}
 use Rattle.scan_scanline.specs.Answer.{IsScan}
-use Rattle.decode_raster.proofs.Laws.Answer.{as_bytes}
+use Rattle.decode_raster.specs.Laws.Answer.{as_bytes}
 use Rattle.decode_raster.proofs.Laws.Steps.{next_within, one_most, number_here, known_after, step_on, bytes_full}
 use borrow.Author.Rules.{rules}
 use Rattle.decode_raster_bytes.proofs.read_line.Statement.{statement}

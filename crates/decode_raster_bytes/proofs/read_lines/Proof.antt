@@ -10,7 +10,7 @@ use Rattle.units.specs.Counts.{word_bytes}
 use Rattle.units.specs.Over.{zeros}
 use Rattle.units.proofs.Laws.Parts.{row_within}
 use Rattle.layout.specs.Chain.{raster_of}
-use Rattle.decode_raster.proofs.Laws.Answer.{as_bytes, Fits}
+use Rattle.decode_raster.specs.Laws.Answer.{as_bytes, Fits}
 use Rattle.decode_raster.proofs.Laws.Lines.{LinesAt, Done, row_fits, lent_length, lines_next, lines_lost, lines_done}
 use Rattle.decode_raster_bytes.proofs.read_lines.Statement.{statement}
 use Rattle.decode_raster_bytes.proofs.read_lines.Tie as tie

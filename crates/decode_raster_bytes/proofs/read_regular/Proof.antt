@@ -23,7 +23,7 @@ use Rattle.scan_scanline.specs.Answer.{IsScan, body_start}
 use Rattle.scan_scanline.specs.Regular.{regular_size, is_regular}
 use Rattle.scan_scanline.proofs.Laws.Regular.{good_scan, Regular, regular}
 use Rattle.decode_raster.specs.declared.Chain.{Chain}
-use Rattle.decode_raster.proofs.Laws.Answer.{as_bytes, Fits, Stepped}
+use Rattle.decode_raster.specs.Laws.Answer.{as_bytes, Fits, Stepped}
 use Rattle.decode_raster.proofs.Laws.Steps.{step_on, bytes_full}
 use Rattle.decode_raster.proofs.Laws.Lines.{LinesAt, lines_first, row_fits, lent_length, lines_next}
 use Rattle.decode_raster_bytes.proofs.read_regular.Statement.{statement}

@@ -20,7 +20,7 @@ use Rattle.encode_raster.specs.Writing.{any_above, any_long, length_rules, pictu
 use Rattle.encode_answer.specs.Sizes.{most_words}
 use Rattle.encode_header.specs.Job.{job_picture}
 use Rattle.encode_header.proofs.Laws.Positions.{length-header}
-use Rattle.encode_raster.proofs.Laws.Answer.{bare, plan_rules}
+use Rattle.encode_raster.specs.Laws.Answer.{bare, plan_rules}
 
 pub record Limits (dtc ppl nol slo scn table pixels : ℕ) : Type 0 where
   pub fields : Within dtc slo scn ppl nol

@@ -7,7 +7,7 @@ use Rattle.encode_body.proofs.Laws.Most.{body_most}
 use Rattle.numbering.specs.Numbering.{written_number}
 use Rattle.encode_header.specs.Picture.{Picture, row_at}
 use Rattle.encode_raster.specs.File.{line_header, line_bytes, lines_of}
-use Rattle.encode_raster.proofs.Laws.Answer.{head_size}
+use Rattle.encode_raster.specs.Laws.Answer.{head_size}
 
 pub length-line : (t scn number : ℕ) (row : List ℕ) → length (line_bytes t scn number row) ≡ head_size scn + length (body_bytes t scn row)
 unfolding line_bytes

@@ -9,7 +9,7 @@ use Rattle.units.proofs.Laws.Over.{over_fits}
 use Rattle.units.proofs.Laws.Stores.{length-bytes}
 use Rattle.codec.specs.Table.{body_bytes}
 use Rattle.encode_raster.specs.File.{line_header, line_bytes}
-use Rattle.encode_raster.proofs.Laws.Answer.{LineFits}
+use Rattle.encode_raster.specs.Laws.Answer.{LineFits}
 use Rattle.encode_raster.proofs.Laws.Bounds.{length-line}
 use Rattle.units.proofs.Laws.Parts.{tail_is, put_tail}
 

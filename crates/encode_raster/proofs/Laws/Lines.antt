@@ -12,7 +12,7 @@ use Rattle.encode_header.specs.Picture.{Picture, row_at}
 use Rattle.encode_raster.specs.File.{line_bytes, lines_of}
 use Rattle.encode_raster.specs.Writing.{any_long}
 use Rattle.encode_answer.specs.Sizes.{most_words}
-use Rattle.encode_raster.proofs.Laws.Answer.{LineFits, LinesFit}
+use Rattle.encode_raster.specs.Laws.Answer.{LineFits, LinesFit}
 use Rattle.encode_raster.proofs.Laws.Bounds.{length_next}
 use Rattle.units.proofs.Laws.Parts.{tail_is, put_next, row_is}
 

@@ -9,7 +9,7 @@ use Rattle.encode_header.specs.Picture.{Picture, row_at}
 use Rattle.encode_raster.specs.File.{lines_of}
 use Rattle.encode_raster.specs.Writing.{any_long}
 use Rattle.encode_answer.specs.Sizes.{most_words}
-use Rattle.encode_raster.proofs.Laws.Answer.{head_size, Measured}
+use Rattle.encode_raster.specs.Laws.Answer.{head_size, Measured}
 use Rattle.encode_raster.proofs.Laws.Bounds.{length_next, lines_most}
 use Rattle.units.proofs.Laws.Parts.{row_is}
 

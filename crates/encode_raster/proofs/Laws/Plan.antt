@@ -13,7 +13,7 @@ use Rattle.encode_raster.specs.Writing.{any_above, any_long}
 use Rattle.encode_answer.specs.Sizes.{size_rules, WriteNumbers, answer_by}
 use Rattle.encode_answer.specs.Answer.{write_numbers}
 use Rattle.encode_answer.proofs.Laws.Sizes.{answer_number, answer_size}
-use Rattle.encode_raster.proofs.Laws.Answer.{bare, plan_rules, plan_size, Measured}
+use Rattle.encode_raster.specs.Laws.Answer.{bare, plan_rules, plan_size, Measured}
 
 -- the first n pixels, as a part
 pub front_is : (n : ℕ) (l : List ℕ) → take (n - 0) (drop 0 l) ≡ take n l

@@ -16,7 +16,7 @@ use Rattle.encode_header.specs.Job.{job_picture, picture_of, header_over}
 use Rattle.encode_answer.specs.Answer.{write_numbers}
 use Rattle.encode_answer.proofs.Laws.Call as call
 use Rattle.encode_header.proofs.Laws.Positions.{length-header}
-use Rattle.encode_raster.proofs.Laws.Answer.{bare, plan_rules, Within, LinesFit}
+use Rattle.encode_raster.specs.Laws.Answer.{bare, plan_rules, Within, LinesFit}
 use Rattle.units.proofs.Laws.Parts.{tail_is, put_next}
 use Rattle.encode_raster.proofs.Laws.Plan.{Planned}
 use Rattle.encode_raster.proofs.Laws.Accepting.{Limits, limits, lines_bare, file-size, rules_bare}

@@ -1,7 +1,7 @@
 use Rattle.std.proofs.Common.{◌+◌, ◌-◌, ◌*◌, ◌^◌, ◌<◌, ◌≤◌, length, arith, rules}
 use Rattle.encode_raster.proofs.Laws.Measuring.{MeasuredAt, measure_first, measure_next, measure_fits, measure_done}
 use Rattle.units.proofs.Laws.Parts.{row_within}
-use Rattle.encode_raster.proofs.Laws.Answer.{bare}
+use Rattle.encode_raster.specs.Laws.Answer.{bare}
 use Rattle.encode_raster.proofs.measure_lines.Statement.{statement}
 use Rattle.encode_raster.proofs.measure_lines.Tie as tie
 

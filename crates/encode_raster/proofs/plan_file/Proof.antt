@@ -1,6 +1,6 @@
 use Rattle.std.proofs.Common.{arith, rules}
 use Rattle.encode_raster.proofs.Laws.Bounds.{lines_most}
-use Rattle.encode_raster.proofs.Laws.Answer.{bare}
+use Rattle.encode_raster.specs.Laws.Answer.{bare}
 use Rattle.encode_raster.proofs.Laws.Plan.{plan_26, plan_sizes}
 use Rattle.encode_raster.proofs.plan_file.Statement.{statement}
 use Rattle.encode_raster.proofs.plan_file.Tie as tie

@@ -3,7 +3,7 @@ use Rattle.codec.proofs.Laws.Table.{type_most}
 use Rattle.encode_header.specs.declared.Job.{Job}
 use Rattle.encode_raster.proofs.Laws.Whole.{Ready, by_field, within, job_within, by_plan, ready}
 use Rattle.encode_raster.proofs.Laws.Accepting.{Limits, head_most}
-use Rattle.encode_raster.proofs.Laws.Answer.{job_of}
+use Rattle.encode_raster.specs.Laws.Answer.{job_of}
 use Rattle.encode_raster.proofs.write_raster.Statement.{statement}
 use Rattle.encode_raster.proofs.write_raster.Tie as tie
 

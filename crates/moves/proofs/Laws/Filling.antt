@@ -9,7 +9,7 @@ use Rattle.std.proofs.Math.Seq.{ext_get_or}
 use Rattle.std.proofs.lemmas.Bool.{eqb-false}
 use borrow.Rule.Slice.PartMut.{mid_of, post_of, put_mid, mid_len, same_len_mid, take_put, drop_put}
 use Rattle.moves.specs.Tabulate.{tabulate}
-use Rattle.moves.proofs.Laws.Tabulate.{length-tabulate, get_d_tabulate, is_tabulate}
+use Rattle.moves.proofs.Laws.Tabulate.{length-tabulate, get_or-tabulate, is_tabulate}
 use Rattle.moves.proofs.Laws.Grid.{rows_apart, row_below, column_below}
 use Rattle.moves.proofs.Laws.Picture.{picture}
 
@@ -124,7 +124,7 @@ module _ (w h : ℕ) (pix : ℕ → ℕ → ℕ) (old : List ℕ) where
             ap (λ (m : ℕ). get_or new m 0) (sym s)
             ∙ in_part (y * w + x) (y * w + e) mid run (omega arith) end_in_lem run_length (j - x) (omega arith)
             ∙ ap (λ (l : List ℕ). get_or l (j - x) 0) run_is
-            ∙ get_d_tabulate _ (λ i. pix y (x + i)) (j - x) (omega (arith, mid_len (y * w + x) (y * w + e) mid end_in_lem))
+            ∙ get_or-tabulate _ (λ i. pix y (x + i)) (j - x) (omega (arith, mid_len (y * w + x) (y * w + e) mid end_in_lem))
             ∙ ap (λ (m : ℕ). pix y m) t
 
         go : (i j : ℕ) → i < h → j < e → (j < x) ⊎ (i < y + 1) → (s : Bool) → ltb i y ≡ s → (t : Bool) → ltb y i ≡ t → (u : Bool) → ltb j x ≡ u → get_or new (i * w + j) 0 ≡ pix i j
@@ -164,7 +164,7 @@ module _ (w h : ℕ) (pix : ℕ → ℕ → ℕ) (old : List ℕ) where
           let c : q % w < w = column_below w h q g in
           ap (λ (m : ℕ). get_or new m 0) (sym (div-add-mod' q w))
           ∙ f.done (q / w) (q % w) (row_below w h q g) c (inl c)
-          ∙ sym (get_or-append table (drop (h * w) old) 0 q (omega (arith, table_length)) ∙ get_d_tabulate (h * w) (λ q. pix (q / w) (q % w)) q g)
+          ∙ sym (get_or-append table (drop (h * w) old) 0 q (omega (arith, table_length)) ∙ get_or-tabulate (h * w) (λ q. pix (q / w) (q % w)) q g)
       go q false t =
           let g : h * w ≤ q = ltb-false q (h * w) t in
           let s : length table + (q - h * w) ≡ q = omega (arith, table_length) in

@@ -10,20 +10,20 @@ unfolding tabulate
 length-tabulate zero f = refl
 length-tabulate (suc n) f = ap suc (length-tabulate n (λ i. f (suc i)))
 
-pub get_d_tabulate : (n : ℕ) (f : ℕ → ℕ) (i : ℕ) → i < n → get_or (tabulate n f) i 0 ≡ f i
+pub get_or-tabulate : (n : ℕ) (f : ℕ → ℕ) (i : ℕ) → i < n → get_or (tabulate n f) i 0 ≡ f i
 unfolding tabulate
-get_d_tabulate zero f i h = absurd (omega arith)
-get_d_tabulate (suc n) f zero h = refl
-get_d_tabulate (suc n) f (suc i) h = get_d_tabulate n (λ i. f (suc i)) i (omega arith)
+get_or-tabulate zero f i h = absurd (omega arith)
+get_or-tabulate (suc n) f zero h = refl
+get_or-tabulate (suc n) f (suc i) h = get_or-tabulate n (λ i. f (suc i)) i (omega arith)
 
 -- a list is the table of a function that gives its elements, and two functions that agree have one table
 pub is_tabulate : (xs : List ℕ) (n : ℕ) (f : ℕ → ℕ) → length xs ≡ n → ((i : ℕ) → i < n → get_or xs i 0 ≡ f i) → xs ≡ tabulate n f
 is_tabulate xs n f l e =
     ext_get_or 0 xs (tabulate n f) (l ∙ sym (length-tabulate n f))
-    (λ i h. let g : i < n = omega arith in e i g ∙ sym (get_d_tabulate n f i g))
+    (λ i h. let g : i < n = omega arith in e i g ∙ sym (get_or-tabulate n f i g))
 
 pub same_table : (n : ℕ) (f g : ℕ → ℕ) → ((i : ℕ) → i < n → f i ≡ g i) → tabulate n f ≡ tabulate n g
-same_table n f g e = is_tabulate (tabulate n f) n g (length-tabulate n f) (λ i h. get_d_tabulate n f i h ∙ e i h)
+same_table n f g e = is_tabulate (tabulate n f) n g (length-tabulate n f) (λ i h. get_or-tabulate n f i h ∙ e i h)
 
 pub tabulate-append : (a b : ℕ) (f : ℕ → ℕ) → tabulate (a + b) f ≡ tabulate a f ++ tabulate b (λ i. f (a + i))
 unfolding tabulate
@@ -45,5 +45,5 @@ read_back m f g within back xs rest l =
     (λ j h. get_or-take m xs j 0 h
     ∙ sym
     (get_or-append table rest 0 (f j) (subst⁻¹ (λ (k : ℕ). f j < k) (length-tabulate m (λ q. get_or xs (g q) 0)) (within j h))
-    ∙ get_d_tabulate m (λ q. get_or xs (g q) 0) (f j) (within j h)
+    ∙ get_or-tabulate m (λ q. get_or xs (g q) 0) (f j) (within j h)
     ∙ ap (λ (i : ℕ). get_or xs i 0) (back j h))))

@@ -7,7 +7,7 @@ use Rattle.moves.specs.Tabulate.{tabulate}
 use Rattle.moves.specs.Moves.{mirror}
 use Rattle.orient.specs.Orientation.{at_right, at_bottom, lines_are_rows, width, height, column_of, row_of, place_of, place, line_at, pixel_at, source, turned, turned_back}
 use Rattle.orient.specs.Statement.{OneToOne, AllOneToOne, AllUpright, AllTurnBack}
-use Rattle.moves.proofs.Laws.Tabulate.{length-tabulate, get_d_tabulate, read_back}
+use Rattle.moves.proofs.Laws.Tabulate.{length-tabulate, get_or-tabulate, read_back}
 use Rattle.moves.proofs.Laws.Grid.{mirror_below, mirror_twice, exchange_below, exchange_twice, exchange_product, cell_below, cell_row, cell_column, row_below, column_below}
 
 module _ (slo p n : ℕ) where
@@ -55,13 +55,13 @@ module _ (slo p n : ℕ) where
     there : (pixels : List ℕ) → get_or (turned slo p n pixels) (place_of slo p n k i) 0 ≡ get_or pixels (k * p + i) 0
     unfolding turned
     there pixels =
-        get_d_tabulate (n * p) (λ q. get_or pixels (source slo p n q) 0) (place_of slo p n k i) place_in
+        get_or-tabulate (n * p) (λ q. get_or pixels (source slo p n q) 0) (place_of slo p n k i) place_in
         ∙ ap (λ (j : ℕ). get_or pixels j 0) source_found
 
     from_there : (upright : List ℕ) → get_or (turned_back slo p n upright) (k * p + i) 0 ≡ get_or upright (place_of slo p n k i) 0
     unfolding turned_back
     from_there upright =
-        get_d_tabulate (n * p) (λ j. get_or upright (place slo p n j) 0) (k * p + i) (cell_below p n k i a b)
+        get_or-tabulate (n * p) (λ j. get_or upright (place slo p n j) 0) (k * p + i) (cell_below p n k i a b)
         ∙ (rw (cell_row p k i b, cell_column p k i b))
 
   -- row y and column x are filled from the sheet, and are where that pixel lies

@@ -23,7 +23,7 @@ use Rattle.transcode.specs.declared.LineSurvey.{LineSurvey}
 use Rattle.transcode.specs.declared.Survey.{Survey}
 use Rattle.transcode.specs.File.{new_lines}
 use Rattle.transcode.specs.Transcoding.{any_line, is_refused, is_partway, is_long, line_rules}
-use Rattle.transcode.proofs.Laws.Answer.{old_row, new_size, Ready, IsSurvey, Surveyed}
+use Rattle.transcode.specs.Laws.Answer.{old_row, new_size, Ready, IsSurvey, Surveyed}
 use Rattle.transcode.proofs.Laws.Lines.{line_some, line_next, line_first, lines_first, lent, lent_is, reading_is, head_is, next_within, reached_next, start_next, length-line, line_most}
 
 -- a first column that is not 0

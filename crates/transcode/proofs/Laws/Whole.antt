@@ -24,7 +24,7 @@ use Rattle.transcode_parts.specs.Headers.{other_type, with_type}
 use Rattle.transcode_parts.specs.Rules.{unmoved_rules}
 use Rattle.transcode.specs.File.{carried_header, new_lines, transcoded}
 use Rattle.transcode.specs.Transcoding.{line_rules, transcode_rejection, transcoding, out_transcoded}
-use Rattle.transcode.proofs.Laws.Answer.{new_size, Movable, Ready, LinesFit}
+use Rattle.transcode.specs.Laws.Answer.{new_size, Movable, Ready, LinesFit}
 use Rattle.transcode.proofs.Laws.Writing.{word_first}
 
 -- the answer and the output of a call

@@ -24,7 +24,7 @@ use Rattle.transcode_parts.specs.Headers.{other_type, fitted}
 use Rattle.transcode.specs.declared.LineSizes.{LineSizes}
 use Rattle.transcode.specs.File.{fitted_header, new_line, new_line_at, new_lines}
 use Rattle.transcode.specs.Transcoding.{any_line, is_refused, is_long}
-use Rattle.transcode.proofs.Laws.Answer.{Ready, old_row, LineFits, IsWritten, LinesFit}
+use Rattle.transcode.specs.Laws.Answer.{Ready, old_row, LineFits, IsWritten, LinesFit}
 use Rattle.transcode.proofs.Laws.Lines.{line-none, lines_first, lines_next, length-new, lent, lent_is, reading_is, next_within, reached_next, start_next, eight_lent, line-lent}
 
 -- a word put into the first of two lists

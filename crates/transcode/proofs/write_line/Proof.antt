@@ -5,7 +5,7 @@ use lib.ListN.{length, drop}
 use borrow.Author.Rules.{rules}
 use Rattle.layout.specs.Scanline.{head_of}
 use Rattle.transcode.specs.File.{new_line}
-use Rattle.transcode.proofs.Laws.Answer.{LineFits}
+use Rattle.transcode.specs.Laws.Answer.{LineFits}
 use Rattle.transcode.proofs.write_line.Statement.{statement}
 use Rattle.transcode.proofs.write_line.Tie as tie
 

@@ -20,7 +20,7 @@ use Rattle.layout.proofs.Laws.Chain.{length-statuses, good_most}
 use Rattle.header.proofs.Laws.Accepted.{accepted}
 use Rattle.units.proofs.Laws.Stores.{zero-bytes}
 use Rattle.layout.proofs.Laws.PixelBytes.{half_below}
-use Rattle.decode_raster.proofs.Laws.Answer.{rows-bytes}
+use Rattle.decode_raster.specs.Laws.Answer.{rows-bytes}
 use Rattle.isolation.specs.Statement.{ChangedInBodies, OneReading, TwoReadings, SameLine, Isolated, buffer_rejection}
 use Rattle.isolation.proofs.Laws.OneFile.{with_bytes}
 use Rattle.isolation.proofs.Laws.TwoFiles.{same_sheet}

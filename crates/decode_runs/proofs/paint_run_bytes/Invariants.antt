@@ -1,0 +1,16 @@
+use Rattle.std.proofs.Common.{rules, length, drop, arith, ◌+◌, ◌-◌, ◌≤◌, zero-le, ◌≡◌, refl, ◌∙◌}
+use lib.Seq.{sets}
+use Rattle.units.specs.Over.{over, zeros}
+use Rattle.units.specs.Words.{words, words_to_bytes}
+use Rattle.slices.proofs.Laws.Painting.{blank_from, run_next_blank, blank-first, blank_last}
+use Rattle.codec.specs.RunPixels.{run_pixels}
+use Rattle.codec.proofs.Laws.RunReading.{pixels-step, pixels-none}
+use Rattle.decode_runs.proofs.paint_run_bytes.Given as goal
+
+abbrev pub invariant-loop-i : goal.invariant-loop-i
+invariant-loop-i l =
+    (l.i ≤ length l.body) × (l.level ≤ 1) × (length l.row ≡ length l.initial.row) × (l.at ≤ length l.row)
+    × (sets (blank_from l.at l.row) l.at (words_to_bytes (run_pixels l.level (words (drop l.i l.body)))) ≡ over (words_to_bytes (run_pixels 0 (words l.body))) (zeros (length l.initial.row)))
+
+abbrev pub decreases-loop-i : goal.decreases-loop-i
+decreases-loop-i l = length l.body - l.i

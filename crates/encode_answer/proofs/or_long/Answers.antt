@@ -1,0 +1,5 @@
+use Rattle.std.proofs.Common.{rules}
+use Rattle.encode_answer.proofs.or_long.Goals as goal
+
+pub returns : goal.returns
+returns c = simp c.if-long.false

@@ -1,0 +1,37 @@
+use Rattle.std.proofs.Common.{ℕ, ◌+◌, ◌-◌, ◌*◌, ◌≤◌, ◌<◌, zero-le, ◌≡◌, refl, ◌∙◌, List, arith, length, rules}
+use borrow.Rule.Slice.PartMut.{mid_len}
+use Rattle.moves.proofs.Laws.Grid.{mirror_below, rows_apart}
+use Rattle.moves.proofs.Laws.Picture.{column_pixel}
+use Rattle.moves.proofs.Laws.Filling.{Filled, band_first, band_last, run-kept, run_more}
+use Rattle.moves.proofs.fill_band.Goals as goal
+
+pub loop-y-init : goal.loop-y-init
+loop-y-init c =
+    let a = c.args in
+    (zero-le, refl, λ old f. band_first a.w a.h _ old a.x a.e a.output.now f)
+
+pub fill_run-requires : goal.fill_run-requires
+fill_run-requires c =
+    let run-within : let a = c.args in c.loop-y.y * a.w + a.e ≤ length a.output.now = omega (arith, rows_apart c.args.w c.loop-y.y c.args.h c.loop-y-test.true, c.requires.w_in_bounds_2, c.requires.x_le_e.1) in
+    let a = c.args in
+    let l = c.loop-y in
+    let i : c.mirror.result < a.h = rw c.mirror.ensures (mirror_below a.upward a.h l.y c.loop-y-test.true) in record { w_in_bounds = c.requires.w_in_bounds; i_lt_h = i; run_bound = omega (arith, c.requires.x_le_e, mid_len (l.y * a.w + a.x) (l.y * a.w + a.e) l.output (omega (arith, run-within, l.invariant.1))) }
+
+pub loop-y-preserved : goal.loop-y-preserved
+loop-y-preserved c =
+    let a = c.args in
+    let l = c.loop-y in
+    let pix = column_pixel a.leftward a.upward a.w a.h a.input.now in
+    let row : l.y < a.h = c.loop-y-test.true in
+    let size : a.h * a.w ≤ length l.output = omega (arith, c.requires.w_in_bounds_2, l.invariant.1) in
+    let run_is = rw c.mirror.ensures at c.fill_run.ensures in (
+      omega arith,
+      run-kept a.w a.h pix l.output a.x a.e l.y l.output _ row c.requires.x_le_e.0 c.requires.x_le_e.1 size run_is ∙ l.invariant.1,
+      λ old f. run_more a.w a.h pix old a.x a.e l.y l.output _ row c.requires.x_le_e.0 c.requires.x_le_e.1 size run_is (l.invariant.2 old f),
+    )
+
+pub returns : goal.returns
+returns c =
+    let a = c.args in
+    let l = c.loop-y in
+    let e : l.y ≡ a.h = omega arith in record { output_len_unchanged = l.invariant.1; band_filled = λ old f. band_last a.w a.h _ old a.x a.e l.output (rw e at (l.invariant.2 old f)) }

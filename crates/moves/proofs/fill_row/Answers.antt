@@ -1,0 +1,16 @@
+use Rattle.std.proofs.Common.{ℕ, ◌-◌, ◌<◌, ap, arith, length, get_or, rules}
+use Rattle.moves.specs.Moves.{mirror}
+use Rattle.moves.proofs.Laws.Grid.{mirror_below}
+use Rattle.moves.proofs.Laws.Picture.{line_moved}
+use Rattle.moves.proofs.Laws.Filling.{Stored, stored-none, stored_more, stored_all}
+use Rattle.moves.proofs.fill_row.Goals as goal
+
+pub loop-x-preserved : goal.loop-x-preserved
+loop-x-preserved c =
+    let l = c.loop-x in
+    let a = c.args in
+    stored_more _ a.row.now l.row l.x l.invariant _ (omega arith) (ap (λ (i : ℕ). get_or a.line.now i 0) c.mirror.ensures)
+
+pub returns : goal.returns
+unfolding line_moved
+returns c = let l = c.loop-x in stored_all _ _ l.row l.x l.invariant (omega arith)

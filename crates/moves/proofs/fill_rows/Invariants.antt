@@ -1,0 +1,12 @@
+use Rattle.std.proofs.Common.{ℕ, ◌+◌, ◌-◌, ◌*◌, ◌≤◌, ◌<◌, zero-le, ◌≡◌, ◌++◌, arith, length, take, drop, length-drop, length-take-le, rules}
+use borrow.Rule.Slice.PartMut.{mid_len}
+use Rattle.moves.proofs.Laws.Grid.{mirror_below, rows_apart}
+use Rattle.moves.proofs.Laws.Picture.{row_pixel, picture}
+use Rattle.moves.proofs.Laws.Rows.{picture-none, rows-length, row_more}
+use Rattle.moves.proofs.fill_rows.Given as goal
+
+abbrev pub invariant-loop-y : goal.invariant-loop-y
+invariant-loop-y l = (l.y ≤ l.h) × (l.output ≡ picture l.w l.y (row_pixel l.leftward l.upward l.w l.h l.input) ++ drop (l.y * l.w) l.initial.output)
+
+abbrev pub decreases-loop-y : goal.decreases-loop-y
+decreases-loop-y l = l.h - l.y

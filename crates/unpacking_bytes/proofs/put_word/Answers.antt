@@ -1,0 +1,30 @@
+use Rattle.std.proofs.Common.{ℕ, ◌+◌, ◌≡◌, sym, ◌∙◌, ap, List, ◌++◌, arith, length, get_or, length-take-le, rules}
+use lib.ListN.{length-map}
+use Rattle.units.specs.Words.{words_to_bytes}
+use Rattle.packing.specs.Weights.{powers, pick, picked}
+use Rattle.packing.proofs.Laws.Weights.{word_picked-bytes}
+use Rattle.unpacking.proofs.Laws.Unpacking.{both_put}
+use Rattle.unpacking_bytes.proofs.put_word.Goals as goal
+
+pub slice_bounds-put_byte-end-2 : goal.slice_bounds-put_byte-end-2
+slice_bounds-put_byte-end-2 c = sym (length-take-le 16 c.args.part.now (omega arith))
+
+pub put_byte-requires : goal.put_byte-requires
+unfolding powers words_to_bytes
+put_byte-requires c = record { weights_len = ap length c.requires.weights_value; part_len = length-take-le 16 c.args.part.now (omega arith) }
+
+pub put_byte-requires-2 : goal.put_byte-requires-2
+unfolding powers words_to_bytes
+put_byte-requires-2 c = record { weights_len = ap length c.requires.weights_value; part_len = omega arith }
+
+pub returns : goal.returns
+unfolding powers words_to_bytes
+returns c =
+    let b = c.args.body.now in
+    let i = c.args.i in
+    let w = c.args.weights.now in
+    let l : length c.put_byte.new.part ≡ 16 = ap length c.put_byte.ensures ∙ length-map w _ ∙ ap length c.requires.weights_value in
+    both_put c.args.part.now c.put_byte.new.part c.put_byte-2.new.part 16 l
+    ∙ (λ j. c.put_byte.ensures j ++ c.put_byte-2.ensures j)
+    ∙ ap (λ (ws : List ℕ). picked (get_or b (i + 1) 0) ws ++ picked (get_or b i 0) ws) c.requires.weights_value
+    ∙ sym (word_picked-bytes b i (omega (arith, c.type_inv.body i)))
