@@ -12,6 +12,7 @@ use Rattle.moves.specs.Tabulate.{tabulate}
 use Rattle.moves.proofs.Laws.Tabulate.{length-tabulate, get_or-tabulate, is_tabulate}
 use Rattle.moves.proofs.Laws.Grid.{rows_apart, row_below, column_below}
 use Rattle.moves.proofs.Laws.Picture.{picture}
+pub use Rattle.moves.specs.Laws.Filling.{Filled, BandFilled}
 
 -- a list is filled from the front with the values of f: the first i places hold them
 pub record Stored (f : ℕ → ℕ) (old new : List ℕ) (i : ℕ) : Type 0 where
@@ -58,16 +59,6 @@ module _ (a e : ℕ) (d ys : List ℕ) (low : a ≤ e) (high : e ≤ length d) (
       ap (λ (m : ℕ). get_or (put_mid a (e - a) d ys) (m + i) 0) (sym n)
       ∙ get_or-append-add (take a d) (ys ++ post_of a (e - a) d) i 0
       ∙ get_or-append ys (post_of a (e - a) d) 0 i (omega arith)
-
--- A picture w wide and h tall, whose pixel for row i and column j is pix i j, is filled up to column x, and up to column e in
--- the rows above row y. What lies past it is as it was.
-pub record Filled (w h : ℕ) (pix : ℕ → ℕ → ℕ) (x e y : ℕ) (old new : List ℕ) : Type 0 where
-  pub done : (i j : ℕ) → i < h → j < e → (j < x) ⊎ (i < y) → get_or new (i * w + j) 0 ≡ pix i j
-  pub past : (q : ℕ) → h * w ≤ q → get_or new q 0 ≡ get_or old q 0
-
--- columns x to e are filled: a picture that was filled up to column x is filled up to column e
-abbrev pub BandFilled : ℕ → ℕ → (ℕ → ℕ → ℕ) → ℕ → ℕ → List ℕ → List ℕ → Type 0
-BandFilled w h pix x e before after = (old : List ℕ) → Filled w h pix x x 0 old before → Filled w h pix e e 0 old after
 
 module _ (w h : ℕ) (pix : ℕ → ℕ → ℕ) (old : List ℕ) where
   pub filled_none : Filled w h pix 0 0 0 old old
