@@ -13,7 +13,7 @@ use Rattle.encode_header.specs.Picture.{Picture}
 use Rattle.encode_header.specs.Header.{ctv_of, blocks_of, table_area, header_bytes, header_size}
 use Rattle.encode_header.specs.Job.{picture_of, header_over}
 use Rattle.encode_header.proofs.Laws.Positions.{length-header, area_put}
-pub use Rattle.encode_header.specs.Laws.Header.{with_start, with_sizes, with_floats, with_fields}
+unfoldable pub use Rattle.encode_header.specs.Laws.Header.{with_start, with_sizes, with_floats, with_fields}
 
 -- the bytes before the table
 unfoldable head_of : Job → List ℕ → List ℕ

@@ -5,7 +5,7 @@ use Rattle.std.proofs.Math.Bool.{true, false}
 use borrow.Author.Tests.{lt-ltb, le-ltb}
 use Rattle.moves.specs.Tabulate.{tabulate}
 use Rattle.moves.specs.Moves.{mirror, moved, moved_after}
-pub use Rattle.moves.specs.Laws.Picture.{row_pixel, column_pixel, picture, line_moved}
+unfoldable pub use Rattle.moves.specs.Laws.Picture.{row_pixel, column_pixel, picture, line_moved}
 
 module _ (crossed leftward upward : Bool) (w h : ℕ) (input output : List ℕ) where
   pub is_moved : h * w ≤ length input → h * w ≤ length output

@@ -6,7 +6,7 @@ use Rattle.std.proofs.Math.Nat.{mul_comm}
 use Rattle.moves.specs.Moves.{moved, moved_after}
 use Rattle.moves.proofs.Laws.Picture.{is_moved}
 use Rattle.orient.specs.Orientation.{at_right, at_bottom, lines_are_rows, turned, turned_back}
-pub use Rattle.orient.specs.Laws.Moving.{either_way}
+unfoldable pub use Rattle.orient.specs.Laws.Moving.{either_way}
 
 module _ (slo p n : ℕ) (input output out : List ℕ) (a : n * p ≤ length input) (b : n * p ≤ length output) {right bottom : Bool}
     (r : right ≡ at_right slo) (d : bottom ≡ at_bottom slo) where
