@@ -41,8 +41,8 @@ pub fn move_pixels(
 
 // Lines as rows.
 fn fill_rows(leftward: bool, upward: bool, w: usize, h: usize, input: &[u16], output: &mut [u16])
-    requires w_in_bounds { h * w ≤ length input.now }
-    requires w_in_bounds_2 { h * w ≤ length output.old }
+    requires input_room { h * w ≤ length input.now }
+    requires output_room { h * w ≤ length output.old }
     ensures { output.new ≡ picture w h (row_pixel leftward upward w h input.now) ++ drop (h * w) output.old }
 {
     let mut y = 0;
@@ -70,8 +70,8 @@ fn fill_row(leftward: bool, line: &[u16], row: &mut [u16])
 // Lines as columns, by bands of columns: the lines that are read side by side stay in the nearest cache, and what is stored
 // lies together.
 fn fill_columns(leftward: bool, upward: bool, w: usize, h: usize, input: &[u16], output: &mut [u16])
-    requires w_in_bounds { h * w ≤ length input.now }
-    requires w_in_bounds_2 { h * w ≤ length output.old }
+    requires input_room { h * w ≤ length input.now }
+    requires output_room { h * w ≤ length output.old }
     ensures { output.new ≡ picture w h (column_pixel leftward upward w h input.now) ++ drop (h * w) output.old }
 {
     let mut x = 0;
@@ -104,8 +104,8 @@ fn fill_band(
     input: &[u16],
     output: &mut [u16],
 )
-    requires w_in_bounds { h * w ≤ length input.now }
-    requires w_in_bounds_2 { h * w ≤ length output.old }
+    requires input_room { h * w ≤ length input.now }
+    requires output_room { h * w ≤ length output.old }
     requires x_le_e { (x ≤ e) × (e ≤ w) }
     ensures output_len_unchanged { length output.new ≡ length output.old }
     ensures band_filled { BandFilled w h (column_pixel leftward upward w h input.now) x e output.old output.new }
@@ -128,7 +128,7 @@ fn fill_band(
 
 // Fills a run of a row from column x on, with pixel i of the lines.
 fn fill_run(leftward: bool, w: usize, h: usize, i: usize, x: usize, input: &[u16], run: &mut [u16])
-    requires w_in_bounds { h * w ≤ length input.now }
+    requires input_room { h * w ≤ length input.now }
     requires i_lt_h { i < h }
     requires run_bound { x + length run.old ≤ w }
     ensures { run.new ≡ tabulate (length run.old) (λ j. get_or input.now (mirror leftward w (x + j) * h + i) 0) }

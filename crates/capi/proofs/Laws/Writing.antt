@@ -8,7 +8,7 @@ use Rattle.encode_answer.specs.Answer.{write_numbers}
 use Rattle.answers.specs.Answer.{number_bytes, result_of, answer_after, unless_short}
 use Rattle.answers.proofs.Laws.Call.{Answered, rejected, stored, changed_if_long}
 use Rattle.capi.specs.Calls.{write_size, write_call}
-unfoldable pub use Rattle.capi.specs.Laws.Writing.{Told}
+pub use Rattle.capi.specs.Laws.Writing.{Told}
 
 module _ (w : WriteAnswer) (answer : List ℕ) (enough : write_size ≤ length answer) (told : Told w) where
   pub write_rejected : (w.number ≡ 0 → ⊥) → Answered write_size (write_call (write_numbers w)) answer w.number answer

@@ -18,7 +18,7 @@ use Rattle.layout.proofs.Laws.Chain.{reading_unreached, unreached-start, unreach
 use Rattle.layout.proofs.Laws.Numbering.{known_first, known_lost}
 use Rattle.decode_raster.specs.declared.Chain.{Chain}
 use Rattle.decode_raster.specs.Laws.Answer.{Storing, Fits, ChainAt, Stepped}
-unfoldable pub use Rattle.decode_raster.specs.Laws.Lines.{LinesAt, Done}
+pub use Rattle.decode_raster.specs.Laws.Lines.{LinesAt, Done}
 
 -- before the first
 pub lines_first : (r : Raster) (s : Storing r.ppl) (pixels marks : List ℕ)

@@ -12,7 +12,7 @@ use Rattle.moves.specs.Tabulate.{tabulate}
 use Rattle.moves.proofs.Laws.Tabulate.{length-tabulate, get_or-tabulate, is_tabulate}
 use Rattle.moves.proofs.Laws.Grid.{rows_apart, row_below, column_below}
 use Rattle.moves.proofs.Laws.Picture.{picture}
-unfoldable pub use Rattle.moves.specs.Laws.Filling.{Filled, BandFilled}
+pub use Rattle.moves.specs.Laws.Filling.{Filled, BandFilled}
 
 -- a list is filled from the front with the values of f: the first i places hold them
 pub record Stored (f : ℕ → ℕ) (old new : List ℕ) (i : ℕ) : Type 0 where

@@ -12,10 +12,10 @@ loop-y-init c =
 
 pub fill_run-requires : goal.fill_run-requires
 fill_run-requires c =
-    let run-within : let a = c.args in c.loop-y.y * a.w + a.e ≤ length a.output.now = omega (arith, rows_apart c.args.w c.loop-y.y c.args.h c.loop-y-test.true, c.requires.w_in_bounds_2, c.requires.x_le_e.1) in
+    let run-within : let a = c.args in c.loop-y.y * a.w + a.e ≤ length a.output.now = omega (arith, rows_apart c.args.w c.loop-y.y c.args.h c.loop-y-test.true, c.requires.output_room, c.requires.x_le_e.1) in
     let a = c.args in
     let l = c.loop-y in
-    let i : c.mirror.result < a.h = rw c.mirror.ensures (mirror_below a.upward a.h l.y c.loop-y-test.true) in record { w_in_bounds = c.requires.w_in_bounds; i_lt_h = i; run_bound = omega (arith, c.requires.x_le_e, mid_len (l.y * a.w + a.x) (l.y * a.w + a.e) l.output (omega (arith, run-within, l.invariant.1))) }
+    let i : c.mirror.result < a.h = rw c.mirror.ensures (mirror_below a.upward a.h l.y c.loop-y-test.true) in record { input_room = c.requires.input_room; i_lt_h = i; run_bound = omega (arith, c.requires.x_le_e, mid_len (l.y * a.w + a.x) (l.y * a.w + a.e) l.output (omega (arith, run-within, l.invariant.1))) }
 
 pub loop-y-preserved : goal.loop-y-preserved
 loop-y-preserved c =
@@ -23,7 +23,7 @@ loop-y-preserved c =
     let l = c.loop-y in
     let pix = column_pixel a.leftward a.upward a.w a.h a.input.now in
     let row : l.y < a.h = c.loop-y-test.true in
-    let size : a.h * a.w ≤ length l.output = omega (arith, c.requires.w_in_bounds_2, l.invariant.1) in
+    let size : a.h * a.w ≤ length l.output = omega (arith, c.requires.output_room, l.invariant.1) in
     let run_is = rw c.mirror.ensures at c.fill_run.ensures in (
       omega arith,
       run-kept a.w a.h pix l.output a.x a.e l.y l.output _ row c.requires.x_le_e.0 c.requires.x_le_e.1 size run_is ∙ l.invariant.1,
@@ -35,3 +35,36 @@ returns c =
     let a = c.args in
     let l = c.loop-y in
     let e : l.y ≡ a.h = omega arith in record { output_len_unchanged = l.invariant.1; band_filled = λ old f. band_last a.w a.h _ old a.x a.e l.output (rw e at (l.invariant.2 old f)) }
+
+pub overflow_mul-at : goal.overflow_mul-at
+overflow_mul-at c =
+    let run-within : let a = c.args in c.loop-y.y * a.w + a.e ≤ length a.output.now = omega (arith, rows_apart c.args.w c.loop-y.y c.args.h c.loop-y-test.true, c.requires.output_room, c.requires.x_le_e.1) in
+    omega (arith, run-within)
+
+pub overflow_add-at : goal.overflow_add-at
+overflow_add-at c =
+    let run-within : let a = c.args in c.loop-y.y * a.w + a.e ≤ length a.output.now = omega (arith, rows_apart c.args.w c.loop-y.y c.args.h c.loop-y-test.true, c.requires.output_room, c.requires.x_le_e.1) in
+    omega (arith, run-within)
+
+pub overflow_add-at-in-loop-y : goal.overflow_add-at-in-loop-y
+overflow_add-at-in-loop-y c =
+    let run-within : let a = c.args in c.loop-y.y * a.w + a.e ≤ length a.output.now = omega (arith, rows_apart c.args.w c.loop-y.y c.args.h c.loop-y-test.true, c.requires.output_room, c.requires.x_le_e.1) in
+    omega (arith, run-within)
+
+pub offset_bounds-output-at : goal.offset_bounds-output-at
+offset_bounds-output-at c =
+    let run-within : let a = c.args in c.loop-y.y * a.w + a.e ≤ length a.output.now = omega (arith, rows_apart c.args.w c.loop-y.y c.args.h c.loop-y-test.true, c.requires.output_room, c.requires.x_le_e.1) in
+    omega (arith, run-within)
+
+pub slice_bounds-fill_run-start : goal.slice_bounds-fill_run-start
+slice_bounds-fill_run-start c =
+    let run-within : let a = c.args in c.loop-y.y * a.w + a.e ≤ length a.output.now = omega (arith, rows_apart c.args.w c.loop-y.y c.args.h c.loop-y-test.true, c.requires.output_room, c.requires.x_le_e.1) in
+    omega (arith, run-within)
+
+pub slice_bounds-fill_run-end : goal.slice_bounds-fill_run-end
+slice_bounds-fill_run-end c =
+    let run-within : let a = c.args in c.loop-y.y * a.w + a.e ≤ length a.output.now = omega (arith, rows_apart c.args.w c.loop-y.y c.args.h c.loop-y-test.true, c.requires.output_room, c.requires.x_le_e.1) in
+    omega (arith, run-within)
+
+pub shape_of-output : goal.shape_of-output
+shape_of-output c = c.loop-y.invariant.1

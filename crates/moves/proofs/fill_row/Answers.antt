@@ -14,3 +14,19 @@ loop-x-preserved c =
 pub returns : goal.returns
 unfolding line_moved
 returns c = let l = c.loop-x in stored_all _ _ l.row l.x l.invariant (omega arith)
+
+pub loop-x-init : goal.loop-x-init
+loop-x-init c = stored-none _ _
+
+pub offset_bounds-line-mirror : goal.offset_bounds-line-mirror
+offset_bounds-line-mirror c =
+    let read-within : c.mirror.result < length c.args.line.now = omega (arith, c.requires, c.mirror.ensures, mirror_below c.args.leftward (length c.args.row.now) c.loop-x.x c.loop-x-test.true) in
+    omega (arith, read-within)
+
+pub bounds-line-mirror : goal.bounds-line-mirror
+bounds-line-mirror c =
+    let read-within : c.mirror.result < length c.args.line.now = omega (arith, c.requires, c.mirror.ensures, mirror_below c.args.leftward (length c.args.row.now) c.loop-x.x c.loop-x-test.true) in
+    read-within
+
+pub shape_of-row : goal.shape_of-row
+shape_of-row c = c.loop-x.invariant.same

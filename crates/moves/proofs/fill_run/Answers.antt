@@ -15,3 +15,26 @@ loop-j-preserved c =
 
 pub returns : goal.returns
 returns c = let l = c.loop-j in stored_all _ _ l.run l.j l.invariant (omega arith)
+
+pub overflow_mul-run : goal.overflow_mul-run
+overflow_mul-run c =
+    let read-within : c.mirror.result * c.args.h + c.args.i < length c.args.input.now = let a = c.args in let m : c.mirror.result < a.w = rw c.mirror.ensures (mirror_below a.leftward a.w (a.x + c.loop-j.j) (omega arith)) in omega (arith, cell_below a.h a.w c.mirror.result a.i m c.requires.i_lt_h, mul_comm a.h a.w, c.requires.input_room) in
+    omega (arith, read-within)
+
+pub overflow_add-run : goal.overflow_add-run
+overflow_add-run c =
+    let read-within : c.mirror.result * c.args.h + c.args.i < length c.args.input.now = let a = c.args in let m : c.mirror.result < a.w = rw c.mirror.ensures (mirror_below a.leftward a.w (a.x + c.loop-j.j) (omega arith)) in omega (arith, cell_below a.h a.w c.mirror.result a.i m c.requires.i_lt_h, mul_comm a.h a.w, c.requires.input_room) in
+    omega (arith, read-within)
+
+pub offset_bounds-input-mirror : goal.offset_bounds-input-mirror
+offset_bounds-input-mirror c =
+    let read-within : c.mirror.result * c.args.h + c.args.i < length c.args.input.now = let a = c.args in let m : c.mirror.result < a.w = rw c.mirror.ensures (mirror_below a.leftward a.w (a.x + c.loop-j.j) (omega arith)) in omega (arith, cell_below a.h a.w c.mirror.result a.i m c.requires.i_lt_h, mul_comm a.h a.w, c.requires.input_room) in
+    omega (arith, read-within)
+
+pub bounds-input-mirror : goal.bounds-input-mirror
+bounds-input-mirror c =
+    let read-within : c.mirror.result * c.args.h + c.args.i < length c.args.input.now = let a = c.args in let m : c.mirror.result < a.w = rw c.mirror.ensures (mirror_below a.leftward a.w (a.x + c.loop-j.j) (omega arith)) in omega (arith, cell_below a.h a.w c.mirror.result a.i m c.requires.i_lt_h, mul_comm a.h a.w, c.requires.input_room) in
+    read-within
+
+pub shape_of-run : goal.shape_of-run
+shape_of-run c = c.loop-j.invariant.same
