@@ -1,5 +1,5 @@
-use Rattle.std.proofs.Common.{eqb, ◌⊎◌, inl, inr, ⊎_elim, true, false, rules, length, drop, arith, ◌-◌, ◌≤◌, zero-le, ◌≡◌, refl, sym, ◌∙◌}
-use borrow.Author.Tests.{not-false}
+use Rattle.std.proofs.Common.{eqb, ◌⊎◌, inl, inr, ⊎_elim, true, false, not, ap, rules, length, drop, arith, ◌-◌, ◌≤◌, zero-le, ◌≡◌, refl, sym, ◌∙◌}
+use Rattle.std.proofs.Common.{ne_eqb}
 use Rattle.codec.proofs.Laws.RunReading.{level, extent_none, extent_above, extent_last, extent_next}
 use Rattle.codec.specs.RunPixels.{runs_from, run_extent}
 use Rattle.units.specs.Words.{words}
@@ -21,14 +21,14 @@ returns-then-left-eq0 c =
     let l = c.loop-i in
     let r = c.args.rest.now in
     c.taken.ensures
-    ∙ sym (extent_last r l.i l.left c.u16_at-n.result l.on c.loop-i-test.true c.u16_at-n.ensures c.if-left-n.false c.if-not-on.true c.if-left-eq0.true)
+    ∙ sym (extent_last r l.i l.left c.u16_at-n.result l.on c.loop-i-test.true c.u16_at-n.ensures c.if-left-n.false (ap not c.if-not-on.true) c.if-left-eq0.true)
     ∙ l.invariant.1
 
 pub loop-i-preserved : goal.loop-i-preserved
 loop-i-preserved c =
     let l = c.loop-i in
     let r = c.args.rest.now in
-    let w : (eqb (l.left - c.u16_at-n.result) 0 ≡ false) ⊎ (l.on ≡ true) = ⊎_elim (λ x. inl x.1.left) (λ x. inr (not-false _ x.left)) c.else-not-on.branch in (
+    let w : (eqb (l.left - c.u16_at-n.result) 0 ≡ false) ⊎ (l.on ≡ true) = ⊎_elim (λ x. inl (ne_eqb _ 0 x.1)) (λ x. inr x) c.else-not-on.either in (
       c.loop-i-test.true,
       sym (extent_next r l.i l.left c.u16_at-n.result l.on c.loop-i-test.true c.u16_at-n.ensures c.if-left-n.false w)
           ∙ l.invariant.1,

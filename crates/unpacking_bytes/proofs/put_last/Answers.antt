@@ -16,4 +16,4 @@ pub returns : goal.returns
 returns c =
     let w = c.args.w in
     let e : c.put_bits.new.part ≡ bits 16 w = c.put_bits.ensures ∙ over_all (bits 16 w) (zeros 16) (length-bits 16 w) in
-    c.store_words_lem.ensures ∙ rw e
+    c.store_words.ensures ∙ rw e
