@@ -1,5 +1,5 @@
 use Rattle.std.proofs.Common.{eqb, ◌⊎◌, inl, inr, ⊎_elim, true, false, not, ap, rules, length, drop, arith, ◌-◌, ◌≤◌, zero-le, ◌≡◌, refl, sym, ◌∙◌}
-use Rattle.std.proofs.Common.{ne_eqb}
+use Rattle.std.proofs.Common.{ne_eqb, eq-eqb}
 use Rattle.codec.proofs.Laws.RunReading.{level, extent_none, extent_above, extent_last, extent_next}
 use Rattle.codec.specs.RunPixels.{runs_from, run_extent}
 use Rattle.units.specs.Words.{words}
@@ -21,7 +21,7 @@ returns-then-left-eq0 c =
     let l = c.loop-i in
     let r = c.args.rest.now in
     c.taken.ensures
-    ∙ sym (extent_last r l.i l.left c.u16_at-n.result l.on c.loop-i-test.true c.u16_at-n.ensures c.if-left-n.false (ap not c.if-not-on.true) c.if-left-eq0.true)
+    ∙ sym (extent_last r l.i l.left c.u16_at-n.result l.on c.loop-i-test.true c.u16_at-n.ensures c.if-left-n.false (ap not c.if-not-on.true) (eq-eqb _ 0 c.if-left-eq0.true))
     ∙ l.invariant.1
 
 pub loop-i-preserved : goal.loop-i-preserved

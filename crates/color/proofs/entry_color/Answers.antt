@@ -1,0 +1,5 @@
+use Rattle.std.proofs.Common.{rules}
+use Rattle.color.proofs.entry_color.Goals as goal
+
+pub returns : goal.returns
+returns c = cc
