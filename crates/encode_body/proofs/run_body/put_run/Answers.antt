@@ -1,0 +1,31 @@
+use Rattle.std.proofs.Common.{[], ◌∷◌, rules, length, arith, ◌-◌, ◌+◌, ◌*◌, ◌≡◌, refl, ap}
+use lib.Seq.{sets}
+use Rattle.cutting.proofs.Laws.Rule.{runs_cut}
+use Rattle.units.specs.Words.{words_to_bytes}
+use Rattle.cutting.specs.Pieces.{level_pieces}
+use Rattle.encode_body.proofs.Laws.Left.{Left, left_word, left_none}
+use Rattle.encode_body.proofs.run_body.put_run.Goals as goal
+
+pub loop-left-init : goal.loop-left-init
+loop-left-init c = (refl, record { puts = refl; ends = refl })
+
+pub put_next-to-requires : goal.put_next-to-requires
+put_next-to-requires c = omega (arith, ap length (runs_cut.above_32767 c.loop-left.left (omega arith)))
+
+pub put_next-to-requires-in-loop-left : goal.put_next-to-requires-in-loop-left
+put_next-to-requires-in-loop-left c = omega (arith, ap length (runs_cut.above_32767 c.loop-left.left (omega arith)))
+
+pub loop-left-preserved : goal.loop-left-preserved
+loop-left-preserved c =
+    let l = c.loop-left in
+    let r = level_pieces (l.left - 32767) in
+    let p = left_word 32767 (0 ∷ r) (runs_cut.above_32767 l.left (omega arith)) l.invariant.1 (c.put_next-to.ensures.value, c.put_next-to.ensures.out_after) in
+    (omega arith, left_word 0 r refl p (c.put_next-to-in-loop-left.ensures.value, c.put_next-to-in-loop-left.ensures.out_after))
+
+pub put_next-requires : goal.put_next-requires
+put_next-requires c = omega (arith, ap length (runs_cut.up_to_32767 c.loop-left.left (omega arith)))
+
+pub returns : goal.returns
+returns c =
+    let l = c.loop-left in
+    let p = left_word l.left [] (runs_cut.up_to_32767 l.left (omega arith)) l.invariant.1 (c.put_next.ensures.value, c.put_next.ensures.out_after) in record { value = omega (arith, p.ends); out_after = left_none refl p }
