@@ -1,0 +1,10 @@
+use Rattle.std.proofs.Common.{◌+◌, ◌-◌, ◌≤◌, sym, ◌∙◌, length, arith, rules}
+use Rattle.layout.specs.Chain.{raster_of}
+use Rattle.transcode.proofs.Laws.Writing.{WrittenAt, write_first, at_within, line_fits, used_within, size_within, write_next, write_done}
+use Rattle.transcode.proofs.write_lines.Given as goal
+
+abbrev pub invariant-loop-k : goal.invariant-loop-k
+invariant-loop-k l = WrittenAt (raster_of l.l l.bytes) l.from l.rollover l.row l.initial.out l.out l.at l.k
+
+abbrev pub decreases-loop-k : goal.decreases-loop-k
+decreases-loop-k l = l.n - l.k
