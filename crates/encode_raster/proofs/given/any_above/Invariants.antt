@@ -1,0 +1,10 @@
+use Rattle.std.proofs.Common.{◌≡◌, ◌+◌, ◌-◌, Bool, ◌||◌, length, drop, sym, refl, ap, ◌∙◌, arith, rules}
+use Rattle.encode_raster.proofs.Laws.Limits.{above_next, above_end}
+use Rattle.encode_raster.specs.Writing.{any_above}
+use Rattle.encode_raster.proofs.given.any_above.Given as goal
+
+abbrev pub invariant-loop-i : goal.invariant-loop-i
+invariant-loop-i l = (l.found || any_above l.m (drop l.i l.pixels)) ≡ any_above l.m l.pixels
+
+abbrev pub decreases-loop-i : goal.decreases-loop-i
+decreases-loop-i l = length l.pixels - l.i

@@ -1,0 +1,5 @@
+use Rattle.std.proofs.Common.{rules}
+use Rattle.encode_raster.proofs.given.or_above.Goals as goal
+
+pub returns : goal.returns
+returns c = simp c.if-found.false
