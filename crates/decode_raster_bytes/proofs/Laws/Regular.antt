@@ -1,0 +1,84 @@
+-- Scanlines as a loop of their own reads them, while all are regular.
+use Rattle.std.proofs.Common.{ℕ, suc, ◌+◌, ◌-◌, ◌*◌, ◌≤◌, ◌<◌, true, false, List, ⊎_elim, ◌≡◌, refl, sym, ◌∙◌, ap, arith, length, take, drop, set, length-drop, drop-drop, rules}
+use mathlib.Core.Path.{subst⁻¹}
+use borrow.Author.Tests.{not-false}
+use borrow.Rule.Slice.PartMut.{mid_of, put_mid}
+use Rattle.units.specs.Counts.{word_bytes}
+use Rattle.units.specs.Over.{over}
+use Rattle.units.specs.Words.{words_to_bytes}
+use Rattle.units.proofs.Laws.Parts.{rest_is}
+use Rattle.numbering.proofs.Laws.Numbering.{rolls_over, number_most}
+use Rattle.layout.specs.Chain.{Raster, raster_of, from, start, reached, number_of}
+use Rattle.layout.specs.Scanline.{step_of, reading_of}
+use Rattle.layout.proofs.Laws.Chain.{start_within}
+use Rattle.layout.proofs.Laws.Line.{length-row}
+use Rattle.layout.proofs.Laws.Numbering.{RolloverKnown, known_here, run-number, run_known}
+use Rattle.scan_scanline.specs.Answer.{IsScan, body_start}
+use Rattle.scan_scanline.specs.Regular.{regular_size, is_regular}
+use Rattle.scan_scanline.proofs.Laws.Regular.{good_scan, Regular, regular}
+use Rattle.decode_raster.specs.declared.Chain.{Chain}
+use Rattle.decode_raster.specs.Laws.Answer.{as_bytes, Fits, Stepped}
+use Rattle.decode_raster.proofs.Laws.Steps.{step_on, bytes_full}
+use Rattle.decode_raster.proofs.Laws.Lines.{LinesAt, lines_first, row_fits, lent_length, lines_next}
+
+-- the chain before scanline k, where all scanlines before it are good
+abbrev pub good_chain : ℕ → ℕ → ℕ → Chain
+good_chain at k rollover = record { at = at; lost = false; good = k; status = 0; rollover = rollover }
+
+-- one turn: scanline k is regular, and its body is stored as its row
+module _ (r : Raster) (pixels₀ marks₀ pixels marks : List ℕ) (at k rollover : ℕ)
+    (now : LinesAt r (as_bytes r.ppl) pixels₀ marks₀ pixels marks (good_chain at k rollover) k) (more : k < r.nol)
+    (room : Fits r (word_bytes r.ppl) (length pixels₀) (length marks₀)) (type : r.data_type ≡ 2) {number : ℕ}
+    (numbered : number ≡ number_of r k) (known : RolloverKnown r (suc k) rollover)
+    (line : Regular r.scn r.ppl number (take (length r.bytes - at) (from r at))) where
+  body_is : (start : ℕ) → start ≡ body_start r.scn
+      → take (at + start + r.ppl - (at + start)) (from r (at + start)) ≡ (reading_of r.scn 2 r.ppl number (take (length r.bytes - at) (from r at))).row
+  body_is start e =
+      let p : at + start + r.ppl - (at + start) ≡ r.ppl = omega arith in
+      ap (λ (n : ℕ). take n (from r (at + start))) p
+      ∙ ap (take r.ppl) (sym (drop-drop start at r.bytes) ∙ (λ i. drop (e i) (sym (rest_is r.bytes at) i)))
+      ∙ sym line.row_is
+
+  stepped : (start : ℕ) → start ≡ body_start r.scn
+      → (row old : List ℕ) → length old ≡ word_bytes r.ppl → row ≡ over (words_to_bytes (take (at + start + r.ppl - (at + start)) (from r (at + start)))) old
+      → Stepped r (as_bytes r.ppl) k (good_chain (at + regular_size r.scn r.ppl) (k + 1) rollover) row
+  stepped start e row old full stored =
+      let rest = take (length r.bytes - at) (from r at) in
+      step_on r (as_bytes r.ppl) k (good_chain at k rollover) now.chain refl (good_scan (regular_size r.scn r.ppl)) row 1 numbered known
+      (subst⁻¹ (λ (t : ℕ). IsScan (step_of r.scn t r.ppl rest) (reading_of r.scn t r.ppl number rest) (good_scan (regular_size r.scn r.ppl))) type line.scan)
+      (stored
+      ∙ ap (λ (x : List ℕ). over (words_to_bytes x) old) (body_is start e)
+      ∙ bytes_full (reading_of r.scn 2 r.ppl number rest).row old r.ppl (length-row r.scn 2 r.ppl rest number) full
+      ∙ ap (λ (t : ℕ). words_to_bytes (reading_of r.scn t r.ppl number rest).row) (sym type))
+      refl
+
+  pub next : (width start size : ℕ) → width ≡ word_bytes r.ppl → start ≡ body_start r.scn → size ≡ regular_size r.scn r.ppl
+      → (row : List ℕ)
+      → row ≡ over (words_to_bytes (take (at + start + r.ppl - (at + start)) (from r (at + start)))) (mid_of (k * width) (k * width + width - k * width) pixels)
+      → LinesAt r (as_bytes r.ppl) pixels₀ marks₀ (put_mid (k * width) (k * width + width - k * width) pixels row) (set marks k 0) (good_chain (at + size) (k + 1) rollover) (k + 1)
+  next width start size w e z row stored =
+      rw (w, z)
+      (lines_next r (as_bytes r.ppl) pixels₀ marks₀ pixels marks (good_chain at k rollover) k now more room (good_chain (at + regular_size r.scn r.ppl) (k + 1) rollover) row
+      (stepped start e row (mid_of (k * width) (k * width + width - k * width) pixels)
+      (rw w (lent_length r (as_bytes r.ppl) pixels₀ marks₀ pixels marks (good_chain at k rollover) k now more room)) stored))
+
+-- the same scanlines with what is known of line 65,536 once it is met
+pub renumbered : (r : Raster) (pixels₀ marks₀ pixels marks : List ℕ) (at k rollover met : ℕ) → RolloverKnown r k met
+    → LinesAt r (as_bytes r.ppl) pixels₀ marks₀ pixels marks (good_chain at k rollover) k
+    → LinesAt r (as_bytes r.ppl) pixels₀ marks₀ pixels marks (good_chain at k met) k
+renumbered r pixels₀ marks₀ pixels marks at k rollover met known now =
+    record {
+      low = now.low;
+      chain = record { at = now.chain.at; lost = now.chain.lost; good = now.chain.good; rollover = known };
+      pixels_is = now.pixels_is;
+      marks_is = now.marks_is;
+      pixels-length = now.pixels-length;
+      marks_length = now.marks_length;
+    }
+
+-- the scanlines read where the loops are left: at the end of the last run, or in one before a scanline that is not regular
+pub same_lines : (r : Raster) (pixels₀ marks₀ : List ℕ) {pixels pixels' marks marks' : List ℕ} {at at' rollover rollover' k k' : ℕ} → pixels ≡ pixels'
+    → marks ≡ marks' → at ≡ at' → rollover ≡ rollover' → k ≡ k'
+    → LinesAt r (as_bytes r.ppl) pixels₀ marks₀ pixels' marks' (good_chain at' k' rollover') k'
+    → LinesAt r (as_bytes r.ppl) pixels₀ marks₀ pixels marks (good_chain at k rollover) k
+same_lines r pixels₀ marks₀ p m a o k x = rw (p, m, a, o, k) x
