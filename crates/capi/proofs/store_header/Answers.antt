@@ -1,0 +1,5 @@
+use Rattle.std.proofs.Common.{rules}
+use Rattle.capi.proofs.store_header.Goals as goal
+
+pub returns : goal.returns
+returns c = cc
