@@ -43,8 +43,7 @@ const WRITE_SIZE: usize = 4;
 const TOO_SHORT: u32 = 29;
 
 // Reads the header of a file.
-#[unsafe(no_mangle)]
-pub extern "C" fn ingr_header(file: &[u8], answer: &mut [u8]) -> u32
+pub fn ingr_header(file: &[u8], answer: &mut [u8]) -> u32
     ensures value { result ≡ result_of header_size (c_header file.now) answer.old }
     ensures answer_after { answer.new ≡ answer_after header_size (c_header file.now) answer.old }
 {
@@ -103,8 +102,7 @@ fn resolution_size(r: Resolution) -> u32
 }
 
 // The color of a pixel value in a file, as it is shown.
-#[unsafe(no_mangle)]
-pub extern "C" fn ingr_color(file: &[u8], value: u32, answer: &mut [u8]) -> u32
+pub fn ingr_color(file: &[u8], value: u32, answer: &mut [u8]) -> u32
     ensures value { result ≡ result_of color_size (c_color file.now value) answer.old }
     ensures answer_after { answer.new ≡ answer_after color_size (c_color file.now value) answer.old }
 {
@@ -116,8 +114,7 @@ pub extern "C" fn ingr_color(file: &[u8], value: u32, answer: &mut [u8]) -> u32
 }
 
 // The color of a pixel value for the grayscale plotter.
-#[unsafe(no_mangle)]
-pub extern "C" fn ingr_plotter_color(file: &[u8], value: u32, answer: &mut [u8]) -> u32
+pub fn ingr_plotter_color(file: &[u8], value: u32, answer: &mut [u8]) -> u32
     ensures value { result ≡ result_of color_size (c_plotter_color file.now value) answer.old }
     ensures answer_after { answer.new ≡ answer_after color_size (c_plotter_color file.now value) answer.old }
 {
@@ -176,8 +173,7 @@ fn store_color(c: Rgb, answer: &mut [u8])
 }
 
 // Reads the raster of a file: pixels as two bytes each, low byte first, row after row, and a status for each scanline.
-#[unsafe(no_mangle)]
-pub extern "C" fn ingr_raster(
+pub fn ingr_raster(
     file: &[u8],
     pixels: &mut [u8],
     marks: &mut [u8],
@@ -201,8 +197,7 @@ pub extern "C" fn ingr_raster(
 }
 
 // Turns a sheet of nol lines of ppl pixels into the upright picture.
-#[unsafe(no_mangle)]
-pub extern "C" fn ingr_turn(
+pub fn ingr_turn(
     slo: u32,
     ppl: u32,
     nol: u32,
@@ -216,8 +211,7 @@ pub extern "C" fn ingr_turn(
 }
 
 // Turns an upright picture back into the sheet of nol lines of ppl pixels.
-#[unsafe(no_mangle)]
-pub extern "C" fn ingr_turn_back(
+pub fn ingr_turn_back(
     slo: u32,
     ppl: u32,
     nol: u32,
@@ -232,8 +226,7 @@ pub extern "C" fn ingr_turn_back(
 
 // Writes a file: the fields by the format's names, DRS as the low 16 bits of a number of two's complement, a color table of 0 or 768
 // bytes, and the pixels row after row.
-#[unsafe(no_mangle)]
-pub extern "C" fn ingr_write(
+pub fn ingr_write(
     dtc: u32,
     ppl: u32,
     nol: u32,
@@ -258,8 +251,7 @@ pub extern "C" fn ingr_write(
 }
 
 // Moves the raster of a file from data type 1 to type 9, or from type 9 to type 1.
-#[unsafe(no_mangle)]
-pub extern "C" fn ingr_move(file: &[u8], out: &mut [u8], answer: &mut [u8]) -> u32
+pub fn ingr_move(file: &[u8], out: &mut [u8], answer: &mut [u8]) -> u32
     ensures value { result ≡ result_of write_size (c_move file.now (length out.old)) answer.old }
     ensures answer_after { answer.new ≡ answer_after write_size (c_move file.now (length out.old)) answer.old }
     ensures out_after { out.new ≡ unless_short write_size answer.old out.old (out_transcoded file.now out.old) }

@@ -13,7 +13,7 @@ returns-then-answer-lt-WRITE_SIZE c =
     let given : Picture = let a = c.args in picture a.dtc a.ppl a.nol a.slo a.scn (a.drs % 65536) a.table.now a.pixels.now in
     let a = c.args in
     let h : length a.answer.now < write_size = omega (arith, c.if-answer-lt-WRITE_SIZE.true) in
-    let t = too_short write_size (c_write (given) (length a.out.now)) a.answer.now h in record { value = t.0; answer_after = t.1; out_after = kept_if_short write_size a.answer.now a.out.now (out_after (given) a.out.now) h }
+    let t = too_short write_size (c_write given (length a.out.now)) a.answer.now h in record { value = t.0; answer_after = t.1; out_after = kept_if_short write_size a.answer.now a.out.now (out_after given a.out.now) h }
 
 pub store_written-requires : goal.store_written-requires
 store_written-requires c =
