@@ -1,5 +1,5 @@
 -- Type 1: sixteen pixels to a word (paper 02, P5).
-use Rattle.std.specs.Prelude.{ℕ, Bool, false, not, cond, List, [], ◌∷◌, length, take, drop, eqb, ltb}
+use Rattle.std.specs.Prelude.{ℕ, Bool, not, cond, List, [], ◌∷◌, length, take, drop, eqb, ltb}
 use Rattle.units.specs.Counts.{word_bytes}
 use Rattle.units.specs.Rules.{Rule, rule}
 use Rattle.units.specs.Words.{words, words_to_bytes, word_count}

@@ -15,9 +15,9 @@ spare_set-requires c =
 pub returns-then-spare_set : goal.returns-then-spare_set
 returns-then-spare_set c =
     let same : (word_count c.args.body.now).0 ≡ packed_count c.args.p = sym c.word_count.ensures ∙ c.if-word_count-packed_count.false ∙ c.packed_count.ensures in
-    simp (eq-eqb _ _ (same), sym c.spare_set.ensures ∙ c.if-spare_set.true)
+    simp (eq-eqb _ _ same, sym c.spare_set.ensures ∙ c.if-spare_set.true)
 
 pub returns : goal.returns
 returns c =
     let same : (word_count c.args.body.now).0 ≡ packed_count c.args.p = sym c.word_count.ensures ∙ c.if-word_count-packed_count.false ∙ c.packed_count.ensures in
-    simp (eq-eqb _ _ (same), sym c.spare_set.ensures ∙ c.if-spare_set.false)
+    simp (eq-eqb _ _ same, sym c.spare_set.ensures ∙ c.if-spare_set.false)

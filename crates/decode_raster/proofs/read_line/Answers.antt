@@ -32,7 +32,7 @@ overflow_add-result c =
     omega (
       arith,
       next_within (raster_of c.args.l c.args.bytes.now) c.args.chain.at c.number_line-numbered.result.number c.read_scanline-line.result
-          (at_within) (scan-of (line_read)),
+          at_within (scan-of line_read),
     )
 
 pub overflow_add-result-2 : goal.overflow_add-result-2
@@ -52,4 +52,4 @@ returns c =
     c.read_scanline-line.result c.read_scanline-line.new.row c.one_if_good.result
     (number_here (raster_of c.args.l c.args.bytes.now) (as_pixels c.args.l.ppl) c.args.k c.args.chain c.requires.chain_at c.if-chain.false c.number_line-numbered.ensures.rollover_value c.number_line-numbered.ensures.number_value)
     (known_after (raster_of c.args.l c.args.bytes.now) (as_pixels c.args.l.ppl) c.args.k c.args.chain c.requires.chain_at c.if-chain.false c.number_line-numbered.ensures.rollover_value)
-    (scan-of (line_read)) (line_read).row_is c.one_if_good.ensures
+    (scan-of line_read) line_read.row_is c.one_if_good.ensures

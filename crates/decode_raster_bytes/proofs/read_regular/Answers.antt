@@ -51,7 +51,7 @@ overflow_cast-before c =
 pub overflow_sub-before : goal.overflow_sub-before
 overflow_sub-before c =
     let counted : (c.number_line-numbered.result.number ≤ 65535) × (c.number_line-numbered.result.number ≤ c.runs.k + 1) = let n = c.number_line-numbered in let k = c.runs.k in ( omega (arith, n.ensures.number_value, (rolls_over n.result.rollover).one_word k), omega (arith, n.ensures.number_value, number_most n.result.rollover k), ) in
-    (counted).1
+    counted.1
 
 pub overflow_add-before-in-runs : goal.overflow_add-before-in-runs
 overflow_add-before-in-runs c =
@@ -72,9 +72,9 @@ runs-smaller c =
 pub runs-preserved : goal.runs-preserved
 runs-preserved c =
     let raster : Raster = raster_of c.args.l c.args.bytes.now in
-    let come : reached (raster) c.runs.k ≡ true = not-false (reached (raster) c.runs.k) (sym c.runs.invariant.chain.lost) in
-    let there : let bytes = c.args.bytes.now in let at = c.runs.at in take (length bytes - at) (drop at bytes) ≡ from (raster) (start (raster) c.runs.k) = rest_is c.args.bytes.now c.runs.at ∙ ap (from (raster)) c.runs.invariant.chain.at in
-    let lines : let a = c.args in LinesAt (raster) (as_bytes a.l.ppl) a.pixels.now a.marks.now c.loop-k.pixels c.loop-k.marks (good_chain c.loop-k.at c.loop-k.k c.number_line-numbered.result.rollover) c.loop-k.k = let l = c.runs in let a = c.args in let n = c.number_line-numbered in c.loop-k.invariant.1 a.pixels.now a.marks.now (renumbered (raster) a.pixels.now a.marks.now l.pixels l.marks l.at l.k l.rollover n.result.rollover (known_here (raster) l.k l.rollover l.invariant.chain.rollover (come) (there) n.ensures.rollover_value) l.invariant) in
+    let come : reached raster c.runs.k ≡ true = not-false (reached raster c.runs.k) (sym c.runs.invariant.chain.lost) in
+    let there : let bytes = c.args.bytes.now in let at = c.runs.at in take (length bytes - at) (drop at bytes) ≡ from raster (start raster c.runs.k) = rest_is c.args.bytes.now c.runs.at ∙ ap (from raster) c.runs.invariant.chain.at in
+    let lines : let a = c.args in LinesAt raster (as_bytes a.l.ppl) a.pixels.now a.marks.now c.loop-k.pixels c.loop-k.marks (good_chain c.loop-k.at c.loop-k.k c.number_line-numbered.result.rollover) c.loop-k.k = let l = c.runs in let a = c.args in let n = c.number_line-numbered in c.loop-k.invariant.1 a.pixels.now a.marks.now (renumbered raster a.pixels.now a.marks.now l.pixels l.marks l.at l.k l.rollover n.result.rollover (known_here raster l.k l.rollover l.invariant.chain.rollover come there n.ensures.rollover_value) l.invariant) in
     lines
 
 pub overflow_add-k : goal.overflow_add-k
@@ -105,19 +105,19 @@ overflow_cast-k c =
 pub slice_bounds-is_regular-count : goal.slice_bounds-is_regular-count
 slice_bounds-is_regular-count c =
     let raster : Raster = raster_of c.args.l c.args.bytes.now in
-    let come : reached (raster) c.runs.k ≡ true = not-false (reached (raster) c.runs.k) (sym c.runs.invariant.chain.lost) in
-    let there : let bytes = c.args.bytes.now in let at = c.runs.at in take (length bytes - at) (drop at bytes) ≡ from (raster) (start (raster) c.runs.k) = rest_is c.args.bytes.now c.runs.at ∙ ap (from (raster)) c.runs.invariant.chain.at in
-    let lines : let a = c.args in LinesAt (raster) (as_bytes a.l.ppl) a.pixels.now a.marks.now c.loop-k.pixels c.loop-k.marks (good_chain c.loop-k.at c.loop-k.k c.number_line-numbered.result.rollover) c.loop-k.k = let l = c.runs in let a = c.args in let n = c.number_line-numbered in c.loop-k.invariant.1 a.pixels.now a.marks.now (renumbered (raster) a.pixels.now a.marks.now l.pixels l.marks l.at l.k l.rollover n.result.rollover (known_here (raster) l.k l.rollover l.invariant.chain.rollover (come) (there) n.ensures.rollover_value) l.invariant) in
-    let line-within : c.loop-k.at ≤ length c.args.bytes.now = omega (arith, (lines).chain.at, start_within (raster) c.requires.starts c.loop-k.k) in
+    let come : reached raster c.runs.k ≡ true = not-false (reached raster c.runs.k) (sym c.runs.invariant.chain.lost) in
+    let there : let bytes = c.args.bytes.now in let at = c.runs.at in take (length bytes - at) (drop at bytes) ≡ from raster (start raster c.runs.k) = rest_is c.args.bytes.now c.runs.at ∙ ap (from raster) c.runs.invariant.chain.at in
+    let lines : let a = c.args in LinesAt raster (as_bytes a.l.ppl) a.pixels.now a.marks.now c.loop-k.pixels c.loop-k.marks (good_chain c.loop-k.at c.loop-k.k c.number_line-numbered.result.rollover) c.loop-k.k = let l = c.runs in let a = c.args in let n = c.number_line-numbered in c.loop-k.invariant.1 a.pixels.now a.marks.now (renumbered raster a.pixels.now a.marks.now l.pixels l.marks l.at l.k l.rollover n.result.rollover (known_here raster l.k l.rollover l.invariant.chain.rollover come there n.ensures.rollover_value) l.invariant) in
+    let line-within : c.loop-k.at ≤ length c.args.bytes.now = omega (arith, lines.chain.at, start_within raster c.requires.starts c.loop-k.k) in
     line-within
 
 pub slice_bounds-is_regular-start : goal.slice_bounds-is_regular-start
 slice_bounds-is_regular-start c =
     let raster : Raster = raster_of c.args.l c.args.bytes.now in
-    let come : reached (raster) c.runs.k ≡ true = not-false (reached (raster) c.runs.k) (sym c.runs.invariant.chain.lost) in
-    let there : let bytes = c.args.bytes.now in let at = c.runs.at in take (length bytes - at) (drop at bytes) ≡ from (raster) (start (raster) c.runs.k) = rest_is c.args.bytes.now c.runs.at ∙ ap (from (raster)) c.runs.invariant.chain.at in
-    let lines : let a = c.args in LinesAt (raster) (as_bytes a.l.ppl) a.pixels.now a.marks.now c.loop-k.pixels c.loop-k.marks (good_chain c.loop-k.at c.loop-k.k c.number_line-numbered.result.rollover) c.loop-k.k = let l = c.runs in let a = c.args in let n = c.number_line-numbered in c.loop-k.invariant.1 a.pixels.now a.marks.now (renumbered (raster) a.pixels.now a.marks.now l.pixels l.marks l.at l.k l.rollover n.result.rollover (known_here (raster) l.k l.rollover l.invariant.chain.rollover (come) (there) n.ensures.rollover_value) l.invariant) in
-    let line-within : c.loop-k.at ≤ length c.args.bytes.now = omega (arith, (lines).chain.at, start_within (raster) c.requires.starts c.loop-k.k) in
+    let come : reached raster c.runs.k ≡ true = not-false (reached raster c.runs.k) (sym c.runs.invariant.chain.lost) in
+    let there : let bytes = c.args.bytes.now in let at = c.runs.at in take (length bytes - at) (drop at bytes) ≡ from raster (start raster c.runs.k) = rest_is c.args.bytes.now c.runs.at ∙ ap (from raster) c.runs.invariant.chain.at in
+    let lines : let a = c.args in LinesAt raster (as_bytes a.l.ppl) a.pixels.now a.marks.now c.loop-k.pixels c.loop-k.marks (good_chain c.loop-k.at c.loop-k.k c.number_line-numbered.result.rollover) c.loop-k.k = let l = c.runs in let a = c.args in let n = c.number_line-numbered in c.loop-k.invariant.1 a.pixels.now a.marks.now (renumbered raster a.pixels.now a.marks.now l.pixels l.marks l.at l.k l.rollover n.result.rollover (known_here raster l.k l.rollover l.invariant.chain.rollover come there n.ensures.rollover_value) l.invariant) in
+    let line-within : c.loop-k.at ≤ length c.args.bytes.now = omega (arith, lines.chain.at, start_within raster c.requires.starts c.loop-k.k) in
     omega (arith, line-within)
 
 pub overflow_mul-from : goal.overflow_mul-from
@@ -125,34 +125,34 @@ overflow_mul-from c =
     let width : ℕ = c.words_to_bytes-width.result.0 in
     let width_is : width ≡ word_bytes c.args.l.ppl = omega (arith, c.well_formed) in
     let raster : Raster = raster_of c.args.l c.args.bytes.now in
-    let come : reached (raster) c.runs.k ≡ true = not-false (reached (raster) c.runs.k) (sym c.runs.invariant.chain.lost) in
-    let there : let bytes = c.args.bytes.now in let at = c.runs.at in take (length bytes - at) (drop at bytes) ≡ from (raster) (start (raster) c.runs.k) = rest_is c.args.bytes.now c.runs.at ∙ ap (from (raster)) c.runs.invariant.chain.at in
-    let lines : let a = c.args in LinesAt (raster) (as_bytes a.l.ppl) a.pixels.now a.marks.now c.loop-k.pixels c.loop-k.marks (good_chain c.loop-k.at c.loop-k.k c.number_line-numbered.result.rollover) c.loop-k.k = let l = c.runs in let a = c.args in let n = c.number_line-numbered in c.loop-k.invariant.1 a.pixels.now a.marks.now (renumbered (raster) a.pixels.now a.marks.now l.pixels l.marks l.at l.k l.rollover n.result.rollover (known_here (raster) l.k l.rollover l.invariant.chain.rollover (come) (there) n.ensures.rollover_value) l.invariant) in
+    let come : reached raster c.runs.k ≡ true = not-false (reached raster c.runs.k) (sym c.runs.invariant.chain.lost) in
+    let there : let bytes = c.args.bytes.now in let at = c.runs.at in take (length bytes - at) (drop at bytes) ≡ from raster (start raster c.runs.k) = rest_is c.args.bytes.now c.runs.at ∙ ap (from raster) c.runs.invariant.chain.at in
+    let lines : let a = c.args in LinesAt raster (as_bytes a.l.ppl) a.pixels.now a.marks.now c.loop-k.pixels c.loop-k.marks (good_chain c.loop-k.at c.loop-k.k c.number_line-numbered.result.rollover) c.loop-k.k = let l = c.runs in let a = c.args in let n = c.number_line-numbered in c.loop-k.invariant.1 a.pixels.now a.marks.now (renumbered raster a.pixels.now a.marks.now l.pixels l.marks l.at l.k l.rollover n.result.rollover (known_here raster l.k l.rollover l.invariant.chain.rollover come there n.ensures.rollover_value) l.invariant) in
     let typed : (c.args.l.dtc ≡ 2) × (c.if-l-eq2.n ≡ c.args.l.nol) = elim c.if-l-eq2.branch [ then-l-eq2 w ↦ (w.if-l-eq2.true, omega arith) | else-l-eq2 w ↦ absurd (omega arith) ] in
     let end : ℕ = c.lesser-end.result in
     let before : ℕ = c.runs.k + 1 - c.number_line-numbered.result.number in
     let ends_by : (end ≤ before + 65535) × (end ≤ c.if-l-eq2.n) = let e = c.lesser-end.ensures in omega arith in
     let counted : (c.number_line-numbered.result.number ≤ 65535) × (c.number_line-numbered.result.number ≤ c.runs.k + 1) = let n = c.number_line-numbered in let k = c.runs.k in ( omega (arith, n.ensures.number_value, (rolls_over n.result.rollover).one_word k), omega (arith, n.ensures.number_value, number_most n.result.rollover k), ) in
     let within : (c.loop-k.k < c.args.l.nol) × (c.loop-k.k + 1 - before ≤ 65535) = omega (arith, typed, ends_by, c.loop-k-test.true, counted) in
-    let room : let w = width in c.loop-k.k * w + w ≤ length c.loop-k.pixels = let l = c.loop-k in subst⁻¹ (λ (w : ℕ). l.k * w + w ≤ length l.pixels) (width_is) (row_fits (raster) (as_bytes c.args.l.ppl) c.args.pixels.now c.args.marks.now l.pixels l.marks (good_chain l.at l.k c.number_line-numbered.result.rollover) l.k (lines) (within).0 c.requires) in
-    omega (arith, room, (lines).pixels-length)
+    let room : let w = width in c.loop-k.k * w + w ≤ length c.loop-k.pixels = let l = c.loop-k in subst⁻¹ (λ (w : ℕ). l.k * w + w ≤ length l.pixels) width_is (row_fits raster (as_bytes c.args.l.ppl) c.args.pixels.now c.args.marks.now l.pixels l.marks (good_chain l.at l.k c.number_line-numbered.result.rollover) l.k lines within.0 c.requires) in
+    omega (arith, room, lines.pixels-length)
 
 pub overflow_add-to : goal.overflow_add-to
 overflow_add-to c =
     let width : ℕ = c.words_to_bytes-width.result.0 in
     let width_is : width ≡ word_bytes c.args.l.ppl = omega (arith, c.well_formed) in
     let raster : Raster = raster_of c.args.l c.args.bytes.now in
-    let come : reached (raster) c.runs.k ≡ true = not-false (reached (raster) c.runs.k) (sym c.runs.invariant.chain.lost) in
-    let there : let bytes = c.args.bytes.now in let at = c.runs.at in take (length bytes - at) (drop at bytes) ≡ from (raster) (start (raster) c.runs.k) = rest_is c.args.bytes.now c.runs.at ∙ ap (from (raster)) c.runs.invariant.chain.at in
-    let lines : let a = c.args in LinesAt (raster) (as_bytes a.l.ppl) a.pixels.now a.marks.now c.loop-k.pixels c.loop-k.marks (good_chain c.loop-k.at c.loop-k.k c.number_line-numbered.result.rollover) c.loop-k.k = let l = c.runs in let a = c.args in let n = c.number_line-numbered in c.loop-k.invariant.1 a.pixels.now a.marks.now (renumbered (raster) a.pixels.now a.marks.now l.pixels l.marks l.at l.k l.rollover n.result.rollover (known_here (raster) l.k l.rollover l.invariant.chain.rollover (come) (there) n.ensures.rollover_value) l.invariant) in
+    let come : reached raster c.runs.k ≡ true = not-false (reached raster c.runs.k) (sym c.runs.invariant.chain.lost) in
+    let there : let bytes = c.args.bytes.now in let at = c.runs.at in take (length bytes - at) (drop at bytes) ≡ from raster (start raster c.runs.k) = rest_is c.args.bytes.now c.runs.at ∙ ap (from raster) c.runs.invariant.chain.at in
+    let lines : let a = c.args in LinesAt raster (as_bytes a.l.ppl) a.pixels.now a.marks.now c.loop-k.pixels c.loop-k.marks (good_chain c.loop-k.at c.loop-k.k c.number_line-numbered.result.rollover) c.loop-k.k = let l = c.runs in let a = c.args in let n = c.number_line-numbered in c.loop-k.invariant.1 a.pixels.now a.marks.now (renumbered raster a.pixels.now a.marks.now l.pixels l.marks l.at l.k l.rollover n.result.rollover (known_here raster l.k l.rollover l.invariant.chain.rollover come there n.ensures.rollover_value) l.invariant) in
     let typed : (c.args.l.dtc ≡ 2) × (c.if-l-eq2.n ≡ c.args.l.nol) = elim c.if-l-eq2.branch [ then-l-eq2 w ↦ (w.if-l-eq2.true, omega arith) | else-l-eq2 w ↦ absurd (omega arith) ] in
     let end : ℕ = c.lesser-end.result in
     let before : ℕ = c.runs.k + 1 - c.number_line-numbered.result.number in
     let ends_by : (end ≤ before + 65535) × (end ≤ c.if-l-eq2.n) = let e = c.lesser-end.ensures in omega arith in
     let counted : (c.number_line-numbered.result.number ≤ 65535) × (c.number_line-numbered.result.number ≤ c.runs.k + 1) = let n = c.number_line-numbered in let k = c.runs.k in ( omega (arith, n.ensures.number_value, (rolls_over n.result.rollover).one_word k), omega (arith, n.ensures.number_value, number_most n.result.rollover k), ) in
     let within : (c.loop-k.k < c.args.l.nol) × (c.loop-k.k + 1 - before ≤ 65535) = omega (arith, typed, ends_by, c.loop-k-test.true, counted) in
-    let room : let w = width in c.loop-k.k * w + w ≤ length c.loop-k.pixels = let l = c.loop-k in subst⁻¹ (λ (w : ℕ). l.k * w + w ≤ length l.pixels) (width_is) (row_fits (raster) (as_bytes c.args.l.ppl) c.args.pixels.now c.args.marks.now l.pixels l.marks (good_chain l.at l.k c.number_line-numbered.result.rollover) l.k (lines) (within).0 c.requires) in
-    omega (arith, room, (lines).pixels-length)
+    let room : let w = width in c.loop-k.k * w + w ≤ length c.loop-k.pixels = let l = c.loop-k in subst⁻¹ (λ (w : ℕ). l.k * w + w ≤ length l.pixels) width_is (row_fits raster (as_bytes c.args.l.ppl) c.args.pixels.now c.args.marks.now l.pixels l.marks (good_chain l.at l.k c.number_line-numbered.result.rollover) l.k lines within.0 c.requires) in
+    omega (arith, room, lines.pixels-length)
 
 pub overflow_add-a : goal.overflow_add-a
 overflow_add-a c =
@@ -160,15 +160,15 @@ overflow_add-a c =
     let size_is : size ≡ regular_size c.args.l.scn c.args.l.ppl = c.regular_size-size.ensures in
     let before : ℕ = c.runs.k + 1 - c.number_line-numbered.result.number in
     let number : ℕ = c.loop-k.k + 1 - before in
-    let line : let a = c.args in Regular a.l.scn a.l.ppl (number) (take (length a.bytes.now - c.loop-k.at) (drop c.loop-k.at a.bytes.now)) = let a = c.args in let rest = take (length a.bytes.now - c.loop-k.at) (drop c.loop-k.at a.bytes.now) in regular a.l.scn a.l.ppl (number) rest (ap (λ (n : ℕ). is_regular a.l.scn (number) n rest) (sym (size_is)) ∙ sym c.is_regular.ensures ∙ c.if-not-is_regular.false) in
+    let line : let a = c.args in Regular a.l.scn a.l.ppl number (take (length a.bytes.now - c.loop-k.at) (drop c.loop-k.at a.bytes.now)) = let a = c.args in let rest = take (length a.bytes.now - c.loop-k.at) (drop c.loop-k.at a.bytes.now) in regular a.l.scn a.l.ppl number rest (ap (λ (n : ℕ). is_regular a.l.scn number n rest) (sym size_is) ∙ sym c.is_regular.ensures ∙ c.if-not-is_regular.false) in
     let raster : Raster = raster_of c.args.l c.args.bytes.now in
-    let come : reached (raster) c.runs.k ≡ true = not-false (reached (raster) c.runs.k) (sym c.runs.invariant.chain.lost) in
-    let there : let bytes = c.args.bytes.now in let at = c.runs.at in take (length bytes - at) (drop at bytes) ≡ from (raster) (start (raster) c.runs.k) = rest_is c.args.bytes.now c.runs.at ∙ ap (from (raster)) c.runs.invariant.chain.at in
-    let lines : let a = c.args in LinesAt (raster) (as_bytes a.l.ppl) a.pixels.now a.marks.now c.loop-k.pixels c.loop-k.marks (good_chain c.loop-k.at c.loop-k.k c.number_line-numbered.result.rollover) c.loop-k.k = let l = c.runs in let a = c.args in let n = c.number_line-numbered in c.loop-k.invariant.1 a.pixels.now a.marks.now (renumbered (raster) a.pixels.now a.marks.now l.pixels l.marks l.at l.k l.rollover n.result.rollover (known_here (raster) l.k l.rollover l.invariant.chain.rollover (come) (there) n.ensures.rollover_value) l.invariant) in
-    let line-within : c.loop-k.at ≤ length c.args.bytes.now = omega (arith, (lines).chain.at, start_within (raster) c.requires.starts c.loop-k.k) in
+    let come : reached raster c.runs.k ≡ true = not-false (reached raster c.runs.k) (sym c.runs.invariant.chain.lost) in
+    let there : let bytes = c.args.bytes.now in let at = c.runs.at in take (length bytes - at) (drop at bytes) ≡ from raster (start raster c.runs.k) = rest_is c.args.bytes.now c.runs.at ∙ ap (from raster) c.runs.invariant.chain.at in
+    let lines : let a = c.args in LinesAt raster (as_bytes a.l.ppl) a.pixels.now a.marks.now c.loop-k.pixels c.loop-k.marks (good_chain c.loop-k.at c.loop-k.k c.number_line-numbered.result.rollover) c.loop-k.k = let l = c.runs in let a = c.args in let n = c.number_line-numbered in c.loop-k.invariant.1 a.pixels.now a.marks.now (renumbered raster a.pixels.now a.marks.now l.pixels l.marks l.at l.k l.rollover n.result.rollover (known_here raster l.k l.rollover l.invariant.chain.rollover come there n.ensures.rollover_value) l.invariant) in
+    let line-within : c.loop-k.at ≤ length c.args.bytes.now = omega (arith, lines.chain.at, start_within raster c.requires.starts c.loop-k.k) in
     let body_at : ℕ = c.body_start-start.result in
     let start_is : body_at ≡ body_start c.args.l.scn = c.body_start-start.ensures in
-    let ends : (c.loop-k.at + size ≤ length c.args.bytes.now) × (body_at + c.args.l.ppl ≤ size) = let bytes = c.args.bytes.now in ( omega (arith, size_is, (line).within, ap length (rest_is bytes c.loop-k.at), length-drop c.loop-k.at bytes, line-within), omega (arith, size_is, start_is, (line).body), ) in
+    let ends : (c.loop-k.at + size ≤ length c.args.bytes.now) × (body_at + c.args.l.ppl ≤ size) = let bytes = c.args.bytes.now in ( omega (arith, size_is, line.within, ap length (rest_is bytes c.loop-k.at), length-drop c.loop-k.at bytes, line-within), omega (arith, size_is, start_is, line.body), ) in
     omega (arith, ends)
 
 pub overflow_add-b : goal.overflow_add-b
@@ -177,15 +177,15 @@ overflow_add-b c =
     let size_is : size ≡ regular_size c.args.l.scn c.args.l.ppl = c.regular_size-size.ensures in
     let before : ℕ = c.runs.k + 1 - c.number_line-numbered.result.number in
     let number : ℕ = c.loop-k.k + 1 - before in
-    let line : let a = c.args in Regular a.l.scn a.l.ppl (number) (take (length a.bytes.now - c.loop-k.at) (drop c.loop-k.at a.bytes.now)) = let a = c.args in let rest = take (length a.bytes.now - c.loop-k.at) (drop c.loop-k.at a.bytes.now) in regular a.l.scn a.l.ppl (number) rest (ap (λ (n : ℕ). is_regular a.l.scn (number) n rest) (sym (size_is)) ∙ sym c.is_regular.ensures ∙ c.if-not-is_regular.false) in
+    let line : let a = c.args in Regular a.l.scn a.l.ppl number (take (length a.bytes.now - c.loop-k.at) (drop c.loop-k.at a.bytes.now)) = let a = c.args in let rest = take (length a.bytes.now - c.loop-k.at) (drop c.loop-k.at a.bytes.now) in regular a.l.scn a.l.ppl number rest (ap (λ (n : ℕ). is_regular a.l.scn number n rest) (sym size_is) ∙ sym c.is_regular.ensures ∙ c.if-not-is_regular.false) in
     let raster : Raster = raster_of c.args.l c.args.bytes.now in
-    let come : reached (raster) c.runs.k ≡ true = not-false (reached (raster) c.runs.k) (sym c.runs.invariant.chain.lost) in
-    let there : let bytes = c.args.bytes.now in let at = c.runs.at in take (length bytes - at) (drop at bytes) ≡ from (raster) (start (raster) c.runs.k) = rest_is c.args.bytes.now c.runs.at ∙ ap (from (raster)) c.runs.invariant.chain.at in
-    let lines : let a = c.args in LinesAt (raster) (as_bytes a.l.ppl) a.pixels.now a.marks.now c.loop-k.pixels c.loop-k.marks (good_chain c.loop-k.at c.loop-k.k c.number_line-numbered.result.rollover) c.loop-k.k = let l = c.runs in let a = c.args in let n = c.number_line-numbered in c.loop-k.invariant.1 a.pixels.now a.marks.now (renumbered (raster) a.pixels.now a.marks.now l.pixels l.marks l.at l.k l.rollover n.result.rollover (known_here (raster) l.k l.rollover l.invariant.chain.rollover (come) (there) n.ensures.rollover_value) l.invariant) in
-    let line-within : c.loop-k.at ≤ length c.args.bytes.now = omega (arith, (lines).chain.at, start_within (raster) c.requires.starts c.loop-k.k) in
+    let come : reached raster c.runs.k ≡ true = not-false (reached raster c.runs.k) (sym c.runs.invariant.chain.lost) in
+    let there : let bytes = c.args.bytes.now in let at = c.runs.at in take (length bytes - at) (drop at bytes) ≡ from raster (start raster c.runs.k) = rest_is c.args.bytes.now c.runs.at ∙ ap (from raster) c.runs.invariant.chain.at in
+    let lines : let a = c.args in LinesAt raster (as_bytes a.l.ppl) a.pixels.now a.marks.now c.loop-k.pixels c.loop-k.marks (good_chain c.loop-k.at c.loop-k.k c.number_line-numbered.result.rollover) c.loop-k.k = let l = c.runs in let a = c.args in let n = c.number_line-numbered in c.loop-k.invariant.1 a.pixels.now a.marks.now (renumbered raster a.pixels.now a.marks.now l.pixels l.marks l.at l.k l.rollover n.result.rollover (known_here raster l.k l.rollover l.invariant.chain.rollover come there n.ensures.rollover_value) l.invariant) in
+    let line-within : c.loop-k.at ≤ length c.args.bytes.now = omega (arith, lines.chain.at, start_within raster c.requires.starts c.loop-k.k) in
     let body_at : ℕ = c.body_start-start.result in
     let start_is : body_at ≡ body_start c.args.l.scn = c.body_start-start.ensures in
-    let ends : (c.loop-k.at + size ≤ length c.args.bytes.now) × (body_at + c.args.l.ppl ≤ size) = let bytes = c.args.bytes.now in ( omega (arith, size_is, (line).within, ap length (rest_is bytes c.loop-k.at), length-drop c.loop-k.at bytes, line-within), omega (arith, size_is, start_is, (line).body), ) in
+    let ends : (c.loop-k.at + size ≤ length c.args.bytes.now) × (body_at + c.args.l.ppl ≤ size) = let bytes = c.args.bytes.now in ( omega (arith, size_is, line.within, ap length (rest_is bytes c.loop-k.at), length-drop c.loop-k.at bytes, line-within), omega (arith, size_is, start_is, line.body), ) in
     omega (arith, ends)
 
 pub slice_bounds-widen_words-start : goal.slice_bounds-widen_words-start
@@ -194,15 +194,15 @@ slice_bounds-widen_words-start c =
     let size_is : size ≡ regular_size c.args.l.scn c.args.l.ppl = c.regular_size-size.ensures in
     let before : ℕ = c.runs.k + 1 - c.number_line-numbered.result.number in
     let number : ℕ = c.loop-k.k + 1 - before in
-    let line : let a = c.args in Regular a.l.scn a.l.ppl (number) (take (length a.bytes.now - c.loop-k.at) (drop c.loop-k.at a.bytes.now)) = let a = c.args in let rest = take (length a.bytes.now - c.loop-k.at) (drop c.loop-k.at a.bytes.now) in regular a.l.scn a.l.ppl (number) rest (ap (λ (n : ℕ). is_regular a.l.scn (number) n rest) (sym (size_is)) ∙ sym c.is_regular.ensures ∙ c.if-not-is_regular.false) in
+    let line : let a = c.args in Regular a.l.scn a.l.ppl number (take (length a.bytes.now - c.loop-k.at) (drop c.loop-k.at a.bytes.now)) = let a = c.args in let rest = take (length a.bytes.now - c.loop-k.at) (drop c.loop-k.at a.bytes.now) in regular a.l.scn a.l.ppl number rest (ap (λ (n : ℕ). is_regular a.l.scn number n rest) (sym size_is) ∙ sym c.is_regular.ensures ∙ c.if-not-is_regular.false) in
     let raster : Raster = raster_of c.args.l c.args.bytes.now in
-    let come : reached (raster) c.runs.k ≡ true = not-false (reached (raster) c.runs.k) (sym c.runs.invariant.chain.lost) in
-    let there : let bytes = c.args.bytes.now in let at = c.runs.at in take (length bytes - at) (drop at bytes) ≡ from (raster) (start (raster) c.runs.k) = rest_is c.args.bytes.now c.runs.at ∙ ap (from (raster)) c.runs.invariant.chain.at in
-    let lines : let a = c.args in LinesAt (raster) (as_bytes a.l.ppl) a.pixels.now a.marks.now c.loop-k.pixels c.loop-k.marks (good_chain c.loop-k.at c.loop-k.k c.number_line-numbered.result.rollover) c.loop-k.k = let l = c.runs in let a = c.args in let n = c.number_line-numbered in c.loop-k.invariant.1 a.pixels.now a.marks.now (renumbered (raster) a.pixels.now a.marks.now l.pixels l.marks l.at l.k l.rollover n.result.rollover (known_here (raster) l.k l.rollover l.invariant.chain.rollover (come) (there) n.ensures.rollover_value) l.invariant) in
-    let line-within : c.loop-k.at ≤ length c.args.bytes.now = omega (arith, (lines).chain.at, start_within (raster) c.requires.starts c.loop-k.k) in
+    let come : reached raster c.runs.k ≡ true = not-false (reached raster c.runs.k) (sym c.runs.invariant.chain.lost) in
+    let there : let bytes = c.args.bytes.now in let at = c.runs.at in take (length bytes - at) (drop at bytes) ≡ from raster (start raster c.runs.k) = rest_is c.args.bytes.now c.runs.at ∙ ap (from raster) c.runs.invariant.chain.at in
+    let lines : let a = c.args in LinesAt raster (as_bytes a.l.ppl) a.pixels.now a.marks.now c.loop-k.pixels c.loop-k.marks (good_chain c.loop-k.at c.loop-k.k c.number_line-numbered.result.rollover) c.loop-k.k = let l = c.runs in let a = c.args in let n = c.number_line-numbered in c.loop-k.invariant.1 a.pixels.now a.marks.now (renumbered raster a.pixels.now a.marks.now l.pixels l.marks l.at l.k l.rollover n.result.rollover (known_here raster l.k l.rollover l.invariant.chain.rollover come there n.ensures.rollover_value) l.invariant) in
+    let line-within : c.loop-k.at ≤ length c.args.bytes.now = omega (arith, lines.chain.at, start_within raster c.requires.starts c.loop-k.k) in
     let body_at : ℕ = c.body_start-start.result in
     let start_is : body_at ≡ body_start c.args.l.scn = c.body_start-start.ensures in
-    let ends : (c.loop-k.at + size ≤ length c.args.bytes.now) × (body_at + c.args.l.ppl ≤ size) = let bytes = c.args.bytes.now in ( omega (arith, size_is, (line).within, ap length (rest_is bytes c.loop-k.at), length-drop c.loop-k.at bytes, line-within), omega (arith, size_is, start_is, (line).body), ) in
+    let ends : (c.loop-k.at + size ≤ length c.args.bytes.now) × (body_at + c.args.l.ppl ≤ size) = let bytes = c.args.bytes.now in ( omega (arith, size_is, line.within, ap length (rest_is bytes c.loop-k.at), length-drop c.loop-k.at bytes, line-within), omega (arith, size_is, start_is, line.body), ) in
     omega (arith, ends)
 
 pub slice_bounds-widen_words-end : goal.slice_bounds-widen_words-end
@@ -211,15 +211,15 @@ slice_bounds-widen_words-end c =
     let size_is : size ≡ regular_size c.args.l.scn c.args.l.ppl = c.regular_size-size.ensures in
     let before : ℕ = c.runs.k + 1 - c.number_line-numbered.result.number in
     let number : ℕ = c.loop-k.k + 1 - before in
-    let line : let a = c.args in Regular a.l.scn a.l.ppl (number) (take (length a.bytes.now - c.loop-k.at) (drop c.loop-k.at a.bytes.now)) = let a = c.args in let rest = take (length a.bytes.now - c.loop-k.at) (drop c.loop-k.at a.bytes.now) in regular a.l.scn a.l.ppl (number) rest (ap (λ (n : ℕ). is_regular a.l.scn (number) n rest) (sym (size_is)) ∙ sym c.is_regular.ensures ∙ c.if-not-is_regular.false) in
+    let line : let a = c.args in Regular a.l.scn a.l.ppl number (take (length a.bytes.now - c.loop-k.at) (drop c.loop-k.at a.bytes.now)) = let a = c.args in let rest = take (length a.bytes.now - c.loop-k.at) (drop c.loop-k.at a.bytes.now) in regular a.l.scn a.l.ppl number rest (ap (λ (n : ℕ). is_regular a.l.scn number n rest) (sym size_is) ∙ sym c.is_regular.ensures ∙ c.if-not-is_regular.false) in
     let raster : Raster = raster_of c.args.l c.args.bytes.now in
-    let come : reached (raster) c.runs.k ≡ true = not-false (reached (raster) c.runs.k) (sym c.runs.invariant.chain.lost) in
-    let there : let bytes = c.args.bytes.now in let at = c.runs.at in take (length bytes - at) (drop at bytes) ≡ from (raster) (start (raster) c.runs.k) = rest_is c.args.bytes.now c.runs.at ∙ ap (from (raster)) c.runs.invariant.chain.at in
-    let lines : let a = c.args in LinesAt (raster) (as_bytes a.l.ppl) a.pixels.now a.marks.now c.loop-k.pixels c.loop-k.marks (good_chain c.loop-k.at c.loop-k.k c.number_line-numbered.result.rollover) c.loop-k.k = let l = c.runs in let a = c.args in let n = c.number_line-numbered in c.loop-k.invariant.1 a.pixels.now a.marks.now (renumbered (raster) a.pixels.now a.marks.now l.pixels l.marks l.at l.k l.rollover n.result.rollover (known_here (raster) l.k l.rollover l.invariant.chain.rollover (come) (there) n.ensures.rollover_value) l.invariant) in
-    let line-within : c.loop-k.at ≤ length c.args.bytes.now = omega (arith, (lines).chain.at, start_within (raster) c.requires.starts c.loop-k.k) in
+    let come : reached raster c.runs.k ≡ true = not-false (reached raster c.runs.k) (sym c.runs.invariant.chain.lost) in
+    let there : let bytes = c.args.bytes.now in let at = c.runs.at in take (length bytes - at) (drop at bytes) ≡ from raster (start raster c.runs.k) = rest_is c.args.bytes.now c.runs.at ∙ ap (from raster) c.runs.invariant.chain.at in
+    let lines : let a = c.args in LinesAt raster (as_bytes a.l.ppl) a.pixels.now a.marks.now c.loop-k.pixels c.loop-k.marks (good_chain c.loop-k.at c.loop-k.k c.number_line-numbered.result.rollover) c.loop-k.k = let l = c.runs in let a = c.args in let n = c.number_line-numbered in c.loop-k.invariant.1 a.pixels.now a.marks.now (renumbered raster a.pixels.now a.marks.now l.pixels l.marks l.at l.k l.rollover n.result.rollover (known_here raster l.k l.rollover l.invariant.chain.rollover come there n.ensures.rollover_value) l.invariant) in
+    let line-within : c.loop-k.at ≤ length c.args.bytes.now = omega (arith, lines.chain.at, start_within raster c.requires.starts c.loop-k.k) in
     let body_at : ℕ = c.body_start-start.result in
     let start_is : body_at ≡ body_start c.args.l.scn = c.body_start-start.ensures in
-    let ends : (c.loop-k.at + size ≤ length c.args.bytes.now) × (body_at + c.args.l.ppl ≤ size) = let bytes = c.args.bytes.now in ( omega (arith, size_is, (line).within, ap length (rest_is bytes c.loop-k.at), length-drop c.loop-k.at bytes, line-within), omega (arith, size_is, start_is, (line).body), ) in
+    let ends : (c.loop-k.at + size ≤ length c.args.bytes.now) × (body_at + c.args.l.ppl ≤ size) = let bytes = c.args.bytes.now in ( omega (arith, size_is, line.within, ap length (rest_is bytes c.loop-k.at), length-drop c.loop-k.at bytes, line-within), omega (arith, size_is, start_is, line.body), ) in
     omega (arith, ends)
 
 pub slice_bounds-widen_words-start-in-loop-k : goal.slice_bounds-widen_words-start-in-loop-k
@@ -227,16 +227,16 @@ slice_bounds-widen_words-start-in-loop-k c =
     let width : ℕ = c.words_to_bytes-width.result.0 in
     let width_is : width ≡ word_bytes c.args.l.ppl = omega (arith, c.well_formed) in
     let raster : Raster = raster_of c.args.l c.args.bytes.now in
-    let come : reached (raster) c.runs.k ≡ true = not-false (reached (raster) c.runs.k) (sym c.runs.invariant.chain.lost) in
-    let there : let bytes = c.args.bytes.now in let at = c.runs.at in take (length bytes - at) (drop at bytes) ≡ from (raster) (start (raster) c.runs.k) = rest_is c.args.bytes.now c.runs.at ∙ ap (from (raster)) c.runs.invariant.chain.at in
-    let lines : let a = c.args in LinesAt (raster) (as_bytes a.l.ppl) a.pixels.now a.marks.now c.loop-k.pixels c.loop-k.marks (good_chain c.loop-k.at c.loop-k.k c.number_line-numbered.result.rollover) c.loop-k.k = let l = c.runs in let a = c.args in let n = c.number_line-numbered in c.loop-k.invariant.1 a.pixels.now a.marks.now (renumbered (raster) a.pixels.now a.marks.now l.pixels l.marks l.at l.k l.rollover n.result.rollover (known_here (raster) l.k l.rollover l.invariant.chain.rollover (come) (there) n.ensures.rollover_value) l.invariant) in
+    let come : reached raster c.runs.k ≡ true = not-false (reached raster c.runs.k) (sym c.runs.invariant.chain.lost) in
+    let there : let bytes = c.args.bytes.now in let at = c.runs.at in take (length bytes - at) (drop at bytes) ≡ from raster (start raster c.runs.k) = rest_is c.args.bytes.now c.runs.at ∙ ap (from raster) c.runs.invariant.chain.at in
+    let lines : let a = c.args in LinesAt raster (as_bytes a.l.ppl) a.pixels.now a.marks.now c.loop-k.pixels c.loop-k.marks (good_chain c.loop-k.at c.loop-k.k c.number_line-numbered.result.rollover) c.loop-k.k = let l = c.runs in let a = c.args in let n = c.number_line-numbered in c.loop-k.invariant.1 a.pixels.now a.marks.now (renumbered raster a.pixels.now a.marks.now l.pixels l.marks l.at l.k l.rollover n.result.rollover (known_here raster l.k l.rollover l.invariant.chain.rollover come there n.ensures.rollover_value) l.invariant) in
     let typed : (c.args.l.dtc ≡ 2) × (c.if-l-eq2.n ≡ c.args.l.nol) = elim c.if-l-eq2.branch [ then-l-eq2 w ↦ (w.if-l-eq2.true, omega arith) | else-l-eq2 w ↦ absurd (omega arith) ] in
     let end : ℕ = c.lesser-end.result in
     let before : ℕ = c.runs.k + 1 - c.number_line-numbered.result.number in
     let ends_by : (end ≤ before + 65535) × (end ≤ c.if-l-eq2.n) = let e = c.lesser-end.ensures in omega arith in
     let counted : (c.number_line-numbered.result.number ≤ 65535) × (c.number_line-numbered.result.number ≤ c.runs.k + 1) = let n = c.number_line-numbered in let k = c.runs.k in ( omega (arith, n.ensures.number_value, (rolls_over n.result.rollover).one_word k), omega (arith, n.ensures.number_value, number_most n.result.rollover k), ) in
     let within : (c.loop-k.k < c.args.l.nol) × (c.loop-k.k + 1 - before ≤ 65535) = omega (arith, typed, ends_by, c.loop-k-test.true, counted) in
-    let room : let w = width in c.loop-k.k * w + w ≤ length c.loop-k.pixels = let l = c.loop-k in subst⁻¹ (λ (w : ℕ). l.k * w + w ≤ length l.pixels) (width_is) (row_fits (raster) (as_bytes c.args.l.ppl) c.args.pixels.now c.args.marks.now l.pixels l.marks (good_chain l.at l.k c.number_line-numbered.result.rollover) l.k (lines) (within).0 c.requires) in
+    let room : let w = width in c.loop-k.k * w + w ≤ length c.loop-k.pixels = let l = c.loop-k in subst⁻¹ (λ (w : ℕ). l.k * w + w ≤ length l.pixels) width_is (row_fits raster (as_bytes c.args.l.ppl) c.args.pixels.now c.args.marks.now l.pixels l.marks (good_chain l.at l.k c.number_line-numbered.result.rollover) l.k lines within.0 c.requires) in
     omega (arith, room)
 
 pub slice_bounds-widen_words-end-in-loop-k : goal.slice_bounds-widen_words-end-in-loop-k
@@ -244,16 +244,16 @@ slice_bounds-widen_words-end-in-loop-k c =
     let width : ℕ = c.words_to_bytes-width.result.0 in
     let width_is : width ≡ word_bytes c.args.l.ppl = omega (arith, c.well_formed) in
     let raster : Raster = raster_of c.args.l c.args.bytes.now in
-    let come : reached (raster) c.runs.k ≡ true = not-false (reached (raster) c.runs.k) (sym c.runs.invariant.chain.lost) in
-    let there : let bytes = c.args.bytes.now in let at = c.runs.at in take (length bytes - at) (drop at bytes) ≡ from (raster) (start (raster) c.runs.k) = rest_is c.args.bytes.now c.runs.at ∙ ap (from (raster)) c.runs.invariant.chain.at in
-    let lines : let a = c.args in LinesAt (raster) (as_bytes a.l.ppl) a.pixels.now a.marks.now c.loop-k.pixels c.loop-k.marks (good_chain c.loop-k.at c.loop-k.k c.number_line-numbered.result.rollover) c.loop-k.k = let l = c.runs in let a = c.args in let n = c.number_line-numbered in c.loop-k.invariant.1 a.pixels.now a.marks.now (renumbered (raster) a.pixels.now a.marks.now l.pixels l.marks l.at l.k l.rollover n.result.rollover (known_here (raster) l.k l.rollover l.invariant.chain.rollover (come) (there) n.ensures.rollover_value) l.invariant) in
+    let come : reached raster c.runs.k ≡ true = not-false (reached raster c.runs.k) (sym c.runs.invariant.chain.lost) in
+    let there : let bytes = c.args.bytes.now in let at = c.runs.at in take (length bytes - at) (drop at bytes) ≡ from raster (start raster c.runs.k) = rest_is c.args.bytes.now c.runs.at ∙ ap (from raster) c.runs.invariant.chain.at in
+    let lines : let a = c.args in LinesAt raster (as_bytes a.l.ppl) a.pixels.now a.marks.now c.loop-k.pixels c.loop-k.marks (good_chain c.loop-k.at c.loop-k.k c.number_line-numbered.result.rollover) c.loop-k.k = let l = c.runs in let a = c.args in let n = c.number_line-numbered in c.loop-k.invariant.1 a.pixels.now a.marks.now (renumbered raster a.pixels.now a.marks.now l.pixels l.marks l.at l.k l.rollover n.result.rollover (known_here raster l.k l.rollover l.invariant.chain.rollover come there n.ensures.rollover_value) l.invariant) in
     let typed : (c.args.l.dtc ≡ 2) × (c.if-l-eq2.n ≡ c.args.l.nol) = elim c.if-l-eq2.branch [ then-l-eq2 w ↦ (w.if-l-eq2.true, omega arith) | else-l-eq2 w ↦ absurd (omega arith) ] in
     let end : ℕ = c.lesser-end.result in
     let before : ℕ = c.runs.k + 1 - c.number_line-numbered.result.number in
     let ends_by : (end ≤ before + 65535) × (end ≤ c.if-l-eq2.n) = let e = c.lesser-end.ensures in omega arith in
     let counted : (c.number_line-numbered.result.number ≤ 65535) × (c.number_line-numbered.result.number ≤ c.runs.k + 1) = let n = c.number_line-numbered in let k = c.runs.k in ( omega (arith, n.ensures.number_value, (rolls_over n.result.rollover).one_word k), omega (arith, n.ensures.number_value, number_most n.result.rollover k), ) in
     let within : (c.loop-k.k < c.args.l.nol) × (c.loop-k.k + 1 - before ≤ 65535) = omega (arith, typed, ends_by, c.loop-k-test.true, counted) in
-    let room : let w = width in c.loop-k.k * w + w ≤ length c.loop-k.pixels = let l = c.loop-k in subst⁻¹ (λ (w : ℕ). l.k * w + w ≤ length l.pixels) (width_is) (row_fits (raster) (as_bytes c.args.l.ppl) c.args.pixels.now c.args.marks.now l.pixels l.marks (good_chain l.at l.k c.number_line-numbered.result.rollover) l.k (lines) (within).0 c.requires) in
+    let room : let w = width in c.loop-k.k * w + w ≤ length c.loop-k.pixels = let l = c.loop-k in subst⁻¹ (λ (w : ℕ). l.k * w + w ≤ length l.pixels) width_is (row_fits raster (as_bytes c.args.l.ppl) c.args.pixels.now c.args.marks.now l.pixels l.marks (good_chain l.at l.k c.number_line-numbered.result.rollover) l.k lines within.0 c.requires) in
     omega (arith, room)
 
 pub bounds-marks-k : goal.bounds-marks-k
@@ -265,10 +265,10 @@ bounds-marks-k c =
     let counted : (c.number_line-numbered.result.number ≤ 65535) × (c.number_line-numbered.result.number ≤ c.runs.k + 1) = let n = c.number_line-numbered in let k = c.runs.k in ( omega (arith, n.ensures.number_value, (rolls_over n.result.rollover).one_word k), omega (arith, n.ensures.number_value, number_most n.result.rollover k), ) in
     let within : (c.loop-k.k < c.args.l.nol) × (c.loop-k.k + 1 - before ≤ 65535) = omega (arith, typed, ends_by, c.loop-k-test.true, counted) in
     let raster : Raster = raster_of c.args.l c.args.bytes.now in
-    let come : reached (raster) c.runs.k ≡ true = not-false (reached (raster) c.runs.k) (sym c.runs.invariant.chain.lost) in
-    let there : let bytes = c.args.bytes.now in let at = c.runs.at in take (length bytes - at) (drop at bytes) ≡ from (raster) (start (raster) c.runs.k) = rest_is c.args.bytes.now c.runs.at ∙ ap (from (raster)) c.runs.invariant.chain.at in
-    let lines : let a = c.args in LinesAt (raster) (as_bytes a.l.ppl) a.pixels.now a.marks.now c.loop-k.pixels c.loop-k.marks (good_chain c.loop-k.at c.loop-k.k c.number_line-numbered.result.rollover) c.loop-k.k = let l = c.runs in let a = c.args in let n = c.number_line-numbered in c.loop-k.invariant.1 a.pixels.now a.marks.now (renumbered (raster) a.pixels.now a.marks.now l.pixels l.marks l.at l.k l.rollover n.result.rollover (known_here (raster) l.k l.rollover l.invariant.chain.rollover (come) (there) n.ensures.rollover_value) l.invariant) in
-    omega (arith, within, (lines).marks_length, c.requires.marks_fit)
+    let come : reached raster c.runs.k ≡ true = not-false (reached raster c.runs.k) (sym c.runs.invariant.chain.lost) in
+    let there : let bytes = c.args.bytes.now in let at = c.runs.at in take (length bytes - at) (drop at bytes) ≡ from raster (start raster c.runs.k) = rest_is c.args.bytes.now c.runs.at ∙ ap (from raster) c.runs.invariant.chain.at in
+    let lines : let a = c.args in LinesAt raster (as_bytes a.l.ppl) a.pixels.now a.marks.now c.loop-k.pixels c.loop-k.marks (good_chain c.loop-k.at c.loop-k.k c.number_line-numbered.result.rollover) c.loop-k.k = let l = c.runs in let a = c.args in let n = c.number_line-numbered in c.loop-k.invariant.1 a.pixels.now a.marks.now (renumbered raster a.pixels.now a.marks.now l.pixels l.marks l.at l.k l.rollover n.result.rollover (known_here raster l.k l.rollover l.invariant.chain.rollover come there n.ensures.rollover_value) l.invariant) in
+    omega (arith, within, lines.marks_length, c.requires.marks_fit)
 
 pub overflow_add-at : goal.overflow_add-at
 overflow_add-at c =
@@ -276,15 +276,15 @@ overflow_add-at c =
     let size_is : size ≡ regular_size c.args.l.scn c.args.l.ppl = c.regular_size-size.ensures in
     let before : ℕ = c.runs.k + 1 - c.number_line-numbered.result.number in
     let number : ℕ = c.loop-k.k + 1 - before in
-    let line : let a = c.args in Regular a.l.scn a.l.ppl (number) (take (length a.bytes.now - c.loop-k.at) (drop c.loop-k.at a.bytes.now)) = let a = c.args in let rest = take (length a.bytes.now - c.loop-k.at) (drop c.loop-k.at a.bytes.now) in regular a.l.scn a.l.ppl (number) rest (ap (λ (n : ℕ). is_regular a.l.scn (number) n rest) (sym (size_is)) ∙ sym c.is_regular.ensures ∙ c.if-not-is_regular.false) in
+    let line : let a = c.args in Regular a.l.scn a.l.ppl number (take (length a.bytes.now - c.loop-k.at) (drop c.loop-k.at a.bytes.now)) = let a = c.args in let rest = take (length a.bytes.now - c.loop-k.at) (drop c.loop-k.at a.bytes.now) in regular a.l.scn a.l.ppl number rest (ap (λ (n : ℕ). is_regular a.l.scn number n rest) (sym size_is) ∙ sym c.is_regular.ensures ∙ c.if-not-is_regular.false) in
     let raster : Raster = raster_of c.args.l c.args.bytes.now in
-    let come : reached (raster) c.runs.k ≡ true = not-false (reached (raster) c.runs.k) (sym c.runs.invariant.chain.lost) in
-    let there : let bytes = c.args.bytes.now in let at = c.runs.at in take (length bytes - at) (drop at bytes) ≡ from (raster) (start (raster) c.runs.k) = rest_is c.args.bytes.now c.runs.at ∙ ap (from (raster)) c.runs.invariant.chain.at in
-    let lines : let a = c.args in LinesAt (raster) (as_bytes a.l.ppl) a.pixels.now a.marks.now c.loop-k.pixels c.loop-k.marks (good_chain c.loop-k.at c.loop-k.k c.number_line-numbered.result.rollover) c.loop-k.k = let l = c.runs in let a = c.args in let n = c.number_line-numbered in c.loop-k.invariant.1 a.pixels.now a.marks.now (renumbered (raster) a.pixels.now a.marks.now l.pixels l.marks l.at l.k l.rollover n.result.rollover (known_here (raster) l.k l.rollover l.invariant.chain.rollover (come) (there) n.ensures.rollover_value) l.invariant) in
-    let line-within : c.loop-k.at ≤ length c.args.bytes.now = omega (arith, (lines).chain.at, start_within (raster) c.requires.starts c.loop-k.k) in
+    let come : reached raster c.runs.k ≡ true = not-false (reached raster c.runs.k) (sym c.runs.invariant.chain.lost) in
+    let there : let bytes = c.args.bytes.now in let at = c.runs.at in take (length bytes - at) (drop at bytes) ≡ from raster (start raster c.runs.k) = rest_is c.args.bytes.now c.runs.at ∙ ap (from raster) c.runs.invariant.chain.at in
+    let lines : let a = c.args in LinesAt raster (as_bytes a.l.ppl) a.pixels.now a.marks.now c.loop-k.pixels c.loop-k.marks (good_chain c.loop-k.at c.loop-k.k c.number_line-numbered.result.rollover) c.loop-k.k = let l = c.runs in let a = c.args in let n = c.number_line-numbered in c.loop-k.invariant.1 a.pixels.now a.marks.now (renumbered raster a.pixels.now a.marks.now l.pixels l.marks l.at l.k l.rollover n.result.rollover (known_here raster l.k l.rollover l.invariant.chain.rollover come there n.ensures.rollover_value) l.invariant) in
+    let line-within : c.loop-k.at ≤ length c.args.bytes.now = omega (arith, lines.chain.at, start_within raster c.requires.starts c.loop-k.k) in
     let body_at : ℕ = c.body_start-start.result in
     let start_is : body_at ≡ body_start c.args.l.scn = c.body_start-start.ensures in
-    let ends : (c.loop-k.at + size ≤ length c.args.bytes.now) × (body_at + c.args.l.ppl ≤ size) = let bytes = c.args.bytes.now in ( omega (arith, size_is, (line).within, ap length (rest_is bytes c.loop-k.at), length-drop c.loop-k.at bytes, line-within), omega (arith, size_is, start_is, (line).body), ) in
+    let ends : (c.loop-k.at + size ≤ length c.args.bytes.now) × (body_at + c.args.l.ppl ≤ size) = let bytes = c.args.bytes.now in ( omega (arith, size_is, line.within, ap length (rest_is bytes c.loop-k.at), length-drop c.loop-k.at bytes, line-within), omega (arith, size_is, start_is, line.body), ) in
     omega (arith, ends)
 
 pub overflow_add-k-in-loop-k : goal.overflow_add-k-in-loop-k
@@ -309,15 +309,15 @@ loop-k-preserved c =
     let ends_by : (end ≤ before + 65535) × (end ≤ c.if-l-eq2.n) = let e = c.lesser-end.ensures in omega arith in
     let counted : (c.number_line-numbered.result.number ≤ 65535) × (c.number_line-numbered.result.number ≤ c.runs.k + 1) = let n = c.number_line-numbered in let k = c.runs.k in ( omega (arith, n.ensures.number_value, (rolls_over n.result.rollover).one_word k), omega (arith, n.ensures.number_value, number_most n.result.rollover k), ) in
     let within : (c.loop-k.k < c.args.l.nol) × (c.loop-k.k + 1 - before ≤ 65535) = omega (arith, typed, ends_by, c.loop-k-test.true, counted) in
-    let fits-too : (pixels₁ marks₁ : List ℕ) → let l = c.runs in let a = c.args in LinesAt (raster) (as_bytes a.l.ppl) pixels₁ marks₁ l.pixels l.marks (good_chain l.at l.k c.number_line-numbered.result.rollover) l.k → Fits (raster) (word_bytes a.l.ppl) (length pixels₁) (length marks₁) = λ pixels₁ marks₁ read. let x = c.runs.invariant in let p = c.requires in record { starts = p.starts; nol_most = p.nol_most; pixels_fit = omega (arith, p.pixels_fit, x.pixels-length, read.pixels-length); marks_fit = omega (arith, p.marks_fit, x.marks_length, read.marks_length); } in
-    let come : reached (raster) c.runs.k ≡ true = not-false (reached (raster) c.runs.k) (sym c.runs.invariant.chain.lost) in
-    let there : let bytes = c.args.bytes.now in let at = c.runs.at in take (length bytes - at) (drop at bytes) ≡ from (raster) (start (raster) c.runs.k) = rest_is c.args.bytes.now c.runs.at ∙ ap (from (raster)) c.runs.invariant.chain.at in
-    let number_is : c.loop-k.k + 1 - before ≡ number_of (raster) c.loop-k.k = let l = c.runs in let n = c.number_line-numbered in run-number (raster) l.k l.rollover l.invariant.chain.rollover (come) (there) n.ensures.rollover_value n.ensures.number_value refl (ends_by).0 c.loop-k.k c.loop-k.invariant.0 c.loop-k-test.true in
-    let known_is : RolloverKnown (raster) (suc c.loop-k.k) c.number_line-numbered.result.rollover = let l = c.runs in let n = c.number_line-numbered in run_known (raster) l.k l.rollover l.invariant.chain.rollover (come) (there) n.ensures.rollover_value n.ensures.number_value refl (ends_by).0 c.loop-k.k c.loop-k.invariant.0 c.loop-k-test.true in
+    let fits-too : (pixels₁ marks₁ : List ℕ) → let l = c.runs in let a = c.args in LinesAt raster (as_bytes a.l.ppl) pixels₁ marks₁ l.pixels l.marks (good_chain l.at l.k c.number_line-numbered.result.rollover) l.k → Fits raster (word_bytes a.l.ppl) (length pixels₁) (length marks₁) = λ pixels₁ marks₁ read. let x = c.runs.invariant in let p = c.requires in record { starts = p.starts; nol_most = p.nol_most; pixels_fit = omega (arith, p.pixels_fit, x.pixels-length, read.pixels-length); marks_fit = omega (arith, p.marks_fit, x.marks_length, read.marks_length); } in
+    let come : reached raster c.runs.k ≡ true = not-false (reached raster c.runs.k) (sym c.runs.invariant.chain.lost) in
+    let there : let bytes = c.args.bytes.now in let at = c.runs.at in take (length bytes - at) (drop at bytes) ≡ from raster (start raster c.runs.k) = rest_is c.args.bytes.now c.runs.at ∙ ap (from raster) c.runs.invariant.chain.at in
+    let number_is : c.loop-k.k + 1 - before ≡ number_of raster c.loop-k.k = let l = c.runs in let n = c.number_line-numbered in run-number raster l.k l.rollover l.invariant.chain.rollover come there n.ensures.rollover_value n.ensures.number_value refl ends_by.0 c.loop-k.k c.loop-k.invariant.0 c.loop-k-test.true in
+    let known_is : RolloverKnown raster (suc c.loop-k.k) c.number_line-numbered.result.rollover = let l = c.runs in let n = c.number_line-numbered in run_known raster l.k l.rollover l.invariant.chain.rollover come there n.ensures.rollover_value n.ensures.number_value refl ends_by.0 c.loop-k.k c.loop-k.invariant.0 c.loop-k-test.true in
     let number : ℕ = c.loop-k.k + 1 - before in
     let size : ℕ = c.regular_size-size.result.0 in
     let size_is : size ≡ regular_size c.args.l.scn c.args.l.ppl = c.regular_size-size.ensures in
-    let line : let a = c.args in Regular a.l.scn a.l.ppl (number) (take (length a.bytes.now - c.loop-k.at) (drop c.loop-k.at a.bytes.now)) = let a = c.args in let rest = take (length a.bytes.now - c.loop-k.at) (drop c.loop-k.at a.bytes.now) in regular a.l.scn a.l.ppl (number) rest (ap (λ (n : ℕ). is_regular a.l.scn (number) n rest) (sym (size_is)) ∙ sym c.is_regular.ensures ∙ c.if-not-is_regular.false) in
+    let line : let a = c.args in Regular a.l.scn a.l.ppl number (take (length a.bytes.now - c.loop-k.at) (drop c.loop-k.at a.bytes.now)) = let a = c.args in let rest = take (length a.bytes.now - c.loop-k.at) (drop c.loop-k.at a.bytes.now) in regular a.l.scn a.l.ppl number rest (ap (λ (n : ℕ). is_regular a.l.scn number n rest) (sym size_is) ∙ sym c.is_regular.ensures ∙ c.if-not-is_regular.false) in
     let width : ℕ = c.words_to_bytes-width.result.0 in
     let body_at : ℕ = c.body_start-start.result in
     let width_is : width ≡ word_bytes c.args.l.ppl = omega (arith, c.well_formed) in
@@ -326,8 +326,8 @@ loop-k-preserved c =
     let n = c.number_line-numbered.result.rollover in (
       omega (arith, l.invariant.0),
       λ pixels₁ marks₁ read.
-          next (raster) pixels₁ marks₁ l.pixels l.marks l.at l.k n (l.invariant.1 pixels₁ marks₁ read) (within).0 (fits-too pixels₁ marks₁ read)
-          (typed).0 (number_is) (known_is) (line) (width) (body_at) (size) (width_is) (start_is) (size_is) c.widen_words.new.to
+          next raster pixels₁ marks₁ l.pixels l.marks l.at l.k n (l.invariant.1 pixels₁ marks₁ read) within.0 (fits-too pixels₁ marks₁ read)
+          typed.0 number_is known_is line width body_at size width_is start_is size_is c.widen_words.new.to
           c.widen_words.ensures,
     )
 

@@ -15,7 +15,7 @@ pub returns-then-left-n : goal.returns-then-left-n
 returns-then-left-n c =
     let odd : (word_count c.args.body.now).0 % 2 ≡ 0 → ⊥ = rw c.word_count.ensures at c.if-word_count-eq0.false in
     let l = c.loop-i in
-    sym (status_above c.args.body.now c.args.p (odd) (omega (arith, total_step c.args.body.now l.i c.loop-i-test.true)))
+    sym (status_above c.args.body.now c.args.p odd (omega (arith, total_step c.args.body.now l.i c.loop-i-test.true)))
 
 pub loop-i-preserved : goal.loop-i-preserved
 loop-i-preserved c =
@@ -26,10 +26,10 @@ pub returns-then-left-ne0 : goal.returns-then-left-ne0
 returns-then-left-ne0 c =
     let odd : (word_count c.args.body.now).0 % 2 ≡ 0 → ⊥ = rw c.word_count.ensures at c.if-word_count-eq0.false in
     let l = c.loop-i in
-    sym (status_below c.args.body.now c.args.p (odd) (omega (arith, total_none c.args.body.now l.i c.loop-i-test.false)))
+    sym (status_below c.args.body.now c.args.p odd (omega (arith, total_none c.args.body.now l.i c.loop-i-test.false)))
 
 pub returns : goal.returns
 returns c =
     let odd : (word_count c.args.body.now).0 % 2 ≡ 0 → ⊥ = rw c.word_count.ensures at c.if-word_count-eq0.false in
     let l = c.loop-i in
-    sym (status_good c.args.body.now c.args.p (odd) (omega (arith, total_none c.args.body.now l.i c.loop-i-test.false)))
+    sym (status_good c.args.body.now c.args.p odd (omega (arith, total_none c.args.body.now l.i c.loop-i-test.false)))

@@ -21,12 +21,12 @@ returns-then-line-ne0 c =
 pub slice_bounds-paint_from-count : goal.slice_bounds-paint_from-count
 slice_bounds-paint_from-count c =
     let good : let s = c.scan_scanline-line in let a = c.args in GoodBody a.dtc (length a.row.now) a.rest.now c.body_start-from.result s.result.used.0 c.first_column-column.result (reading_of a.scn a.dtc (length a.row.now) a.number a.rest.now).row = let s = c.scan_scanline-line in let a = c.args in good_line a.scn a.dtc (length a.row.now) a.number a.rest.now s.ensures c.body_start-from.ensures c.first_column-column.ensures c.if-line-ne0.false in
-    (good).starts
+    good.starts
 
 pub slice_bounds-paint_from-start : goal.slice_bounds-paint_from-start
 slice_bounds-paint_from-start c =
     let good : let s = c.scan_scanline-line in let a = c.args in GoodBody a.dtc (length a.row.now) a.rest.now c.body_start-from.result s.result.used.0 c.first_column-column.result (reading_of a.scn a.dtc (length a.row.now) a.number a.rest.now).row = let s = c.scan_scanline-line in let a = c.args in good_line a.scn a.dtc (length a.row.now) a.number a.rest.now s.ensures c.body_start-from.ensures c.first_column-column.ensures c.if-line-ne0.false in
-    (good).starts
+    good.starts
 
 pub slice_bounds-paint_from-end : goal.slice_bounds-paint_from-end
 slice_bounds-paint_from-end c =
@@ -36,7 +36,7 @@ slice_bounds-paint_from-end c =
 pub paint_from-requires : goal.paint_from-requires
 paint_from-requires c =
     let good : let s = c.scan_scanline-line in let a = c.args in GoodBody a.dtc (length a.row.now) a.rest.now c.body_start-from.result s.result.used.0 c.first_column-column.result (reading_of a.scn a.dtc (length a.row.now) a.number a.rest.now).row = let s = c.scan_scanline-line in let a = c.args in good_line a.scn a.dtc (length a.row.now) a.number a.rest.now s.ensures c.body_start-from.ensures c.first_column-column.ensures c.if-line-ne0.false in
-    (good).fits
+    good.fits
 
 pub returns : goal.returns
 returns c =
@@ -49,5 +49,5 @@ returns c =
       used = s.ensures.used;
       row_is =
           c.paint_from.ensures
-          ∙ painted_line (good) a.row.now refl;
+          ∙ painted_line good a.row.now refl;
     }

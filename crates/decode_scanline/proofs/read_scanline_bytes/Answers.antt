@@ -19,21 +19,21 @@ slice_bounds-clear-end-then-line-ne0 c =
 pub returns-then-line-ne0 : goal.returns-then-line-ne0
 returns-then-line-ne0 c =
     let count-is : c.bytes_to_words-p.result.0 ≡ (word_count c.args.row.now).0 = c.bytes_to_words-p.ensures in
-    let scanned : let a = c.args in let p = (word_count a.row.now).0 in IsScan (step_of a.scn a.dtc p a.rest.now) (reading_of a.scn a.dtc p a.number a.rest.now) c.scan_scanline-line.result = let a = c.args in subst (λ (p : ℕ). IsScan (step_of a.scn a.dtc p a.rest.now) (reading_of a.scn a.dtc p a.number a.rest.now) c.scan_scanline-line.result) (count-is) c.scan_scanline-line.ensures in
+    let scanned : let a = c.args in let p = (word_count a.row.now).0 in IsScan (step_of a.scn a.dtc p a.rest.now) (reading_of a.scn a.dtc p a.number a.rest.now) c.scan_scanline-line.result = let a = c.args in subst (λ (p : ℕ). IsScan (step_of a.scn a.dtc p a.rest.now) (reading_of a.scn a.dtc p a.number a.rest.now) c.scan_scanline-line.result) count-is c.scan_scanline-line.ensures in
     let end_is : c.words_to_bytes-end.result.0 ≡ word_bytes (word_count c.args.row.now).0 = let held : length c.args.row.now ≤ 18446744073709551615 = omega arith in omega (arith, count-is) in
     let end_fits : c.words_to_bytes-end.result.0 ≤ length c.args.row.now = omega (arith, end_is) in
     let a = c.args in
-    let n = c.words_to_bytes-end.result.0 in record { scan = scanned; row_after = ap (λ (x : List ℕ). x ++ drop n a.row.now) (c.clear.ensures ∙ ap zeros (length-take-le n a.row.now (end_fits))) ∙ cleared_bytes (word_count a.row.now).0 n a.row.now (reading_of a.scn a.dtc (word_count a.row.now).0 a.number a.rest.now).row (end_is) (end_fits) (blank-line a.scn a.dtc (word_count a.row.now).0 a.number a.rest.now (scanned) c.if-line-ne0.true) }
+    let n = c.words_to_bytes-end.result.0 in record { scan = scanned; row_after = ap (λ (x : List ℕ). x ++ drop n a.row.now) (c.clear.ensures ∙ ap zeros (length-take-le n a.row.now end_fits)) ∙ cleared_bytes (word_count a.row.now).0 n a.row.now (reading_of a.scn a.dtc (word_count a.row.now).0 a.number a.rest.now).row end_is end_fits (blank-line a.scn a.dtc (word_count a.row.now).0 a.number a.rest.now scanned c.if-line-ne0.true) }
 
 pub slice_bounds-paint_bytes_from-count : goal.slice_bounds-paint_bytes_from-count
 slice_bounds-paint_bytes_from-count c =
     let good : let s = c.scan_scanline-line in let p = c.bytes_to_words-p.result.0 in let a = c.args in GoodBody a.dtc p a.rest.now c.body_start-from.result s.result.used.0 c.first_column-column.result (reading_of a.scn a.dtc p a.number a.rest.now).row = let s = c.scan_scanline-line in let p = c.bytes_to_words-p.result.0 in let a = c.args in good_line a.scn a.dtc p a.number a.rest.now s.ensures c.body_start-from.ensures c.first_column-column.ensures c.if-line-ne0.false in
-    (good).starts
+    good.starts
 
 pub slice_bounds-paint_bytes_from-start : goal.slice_bounds-paint_bytes_from-start
 slice_bounds-paint_bytes_from-start c =
     let good : let s = c.scan_scanline-line in let p = c.bytes_to_words-p.result.0 in let a = c.args in GoodBody a.dtc p a.rest.now c.body_start-from.result s.result.used.0 c.first_column-column.result (reading_of a.scn a.dtc p a.number a.rest.now).row = let s = c.scan_scanline-line in let p = c.bytes_to_words-p.result.0 in let a = c.args in good_line a.scn a.dtc p a.number a.rest.now s.ensures c.body_start-from.ensures c.first_column-column.ensures c.if-line-ne0.false in
-    (good).starts
+    good.starts
 
 pub slice_bounds-paint_bytes_from-end : goal.slice_bounds-paint_bytes_from-end
 slice_bounds-paint_bytes_from-end c =
@@ -51,7 +51,7 @@ paint_bytes_from-requires c =
 pub returns : goal.returns
 returns c =
     let count-is : c.bytes_to_words-p.result.0 ≡ (word_count c.args.row.now).0 = c.bytes_to_words-p.ensures in
-    let scanned : let a = c.args in let p = (word_count a.row.now).0 in IsScan (step_of a.scn a.dtc p a.rest.now) (reading_of a.scn a.dtc p a.number a.rest.now) c.scan_scanline-line.result = let a = c.args in subst (λ (p : ℕ). IsScan (step_of a.scn a.dtc p a.rest.now) (reading_of a.scn a.dtc p a.number a.rest.now) c.scan_scanline-line.result) (count-is) c.scan_scanline-line.ensures in
+    let scanned : let a = c.args in let p = (word_count a.row.now).0 in IsScan (step_of a.scn a.dtc p a.rest.now) (reading_of a.scn a.dtc p a.number a.rest.now) c.scan_scanline-line.result = let a = c.args in subst (λ (p : ℕ). IsScan (step_of a.scn a.dtc p a.rest.now) (reading_of a.scn a.dtc p a.number a.rest.now) c.scan_scanline-line.result) count-is c.scan_scanline-line.ensures in
     let good : let s = c.scan_scanline-line in let p = c.bytes_to_words-p.result.0 in let a = c.args in GoodBody a.dtc p a.rest.now c.body_start-from.result s.result.used.0 c.first_column-column.result (reading_of a.scn a.dtc p a.number a.rest.now).row = let s = c.scan_scanline-line in let p = c.bytes_to_words-p.result.0 in let a = c.args in good_line a.scn a.dtc p a.number a.rest.now s.ensures c.body_start-from.ensures c.first_column-column.ensures c.if-line-ne0.false in
     let room : word_bytes c.bytes_to_words-p.result.0 ≤ length c.args.row.now = omega (arith, count-is) in
-    let a = c.args in record { scan = scanned; row_after = c.paint_bytes_from.ensures ∙ painted_bytes (good) a.row.now (room) ∙ ap (λ (n : ℕ). over (words_to_bytes (reading_of a.scn a.dtc n a.number a.rest.now).row) a.row.now) (count-is) }
+    let a = c.args in record { scan = scanned; row_after = c.paint_bytes_from.ensures ∙ painted_bytes good a.row.now room ∙ ap (λ (n : ℕ). over (words_to_bytes (reading_of a.scn a.dtc n a.number a.rest.now).row) a.row.now) count-is }

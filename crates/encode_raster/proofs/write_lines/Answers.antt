@@ -43,22 +43,22 @@ slice_bounds-write_line-end c =
 pub slice_bounds-write_line-count-in-loop-k : goal.slice_bounds-write_line-count-in-loop-k
 slice_bounds-write_line-count-in-loop-k c =
     let turn-here : let a = c.args in let l = c.loop-k in Turn (bare a.job a.pixels.now) a.out.now l.out l.at l.number l.k = let a = c.args in let l = c.loop-k in turn (bare a.job a.pixels.now) a.out.now l.out l.at l.k l.invariant.0 c.loop-k-test.true c.requires.lines_fit l.invariant.1 in
-    (turn-here).at_within
+    turn-here.at_within
 
 pub slice_bounds-write_line-start-in-loop-k : goal.slice_bounds-write_line-start-in-loop-k
 slice_bounds-write_line-start-in-loop-k c =
     let turn-here : let a = c.args in let l = c.loop-k in Turn (bare a.job a.pixels.now) a.out.now l.out l.at l.number l.k = let a = c.args in let l = c.loop-k in turn (bare a.job a.pixels.now) a.out.now l.out l.at l.k l.invariant.0 c.loop-k-test.true c.requires.lines_fit l.invariant.1 in
-    omega (arith, (turn-here).at_within)
+    omega (arith, turn-here.at_within)
 
 pub write_line-size-requires : goal.write_line-size-requires
 write_line-size-requires c =
     let turn-here : let a = c.args in let l = c.loop-k in Turn (bare a.job a.pixels.now) a.out.now l.out l.at l.number l.k = let a = c.args in let l = c.loop-k in turn (bare a.job a.pixels.now) a.out.now l.out l.at l.k l.invariant.0 c.loop-k-test.true c.requires.lines_fit l.invariant.1 in
-    (turn-here).line_fits
+    turn-here.line_fits
 
 pub overflow_add-at : goal.overflow_add-at
 overflow_add-at c =
     let turn-here : let a = c.args in let l = c.loop-k in Turn (bare a.job a.pixels.now) a.out.now l.out l.at l.number l.k = let a = c.args in let l = c.loop-k in turn (bare a.job a.pixels.now) a.out.now l.out l.at l.k l.invariant.0 c.loop-k-test.true c.requires.lines_fit l.invariant.1 in
-    omega (arith, (turn-here).size_within c.write_line-size.ensures.result_value, c.loop-k.invariant.0.same, c.well_formed)
+    omega (arith, turn-here.size_within c.write_line-size.ensures.result_value, c.loop-k.invariant.0.same, c.well_formed)
 
 pub overflow_add-k : goal.overflow_add-k
 overflow_add-k c =
@@ -72,7 +72,7 @@ pub loop-k-preserved : goal.loop-k-preserved
 loop-k-preserved c =
     let turn-here : let a = c.args in let l = c.loop-k in Turn (bare a.job a.pixels.now) a.out.now l.out l.at l.number l.k = let a = c.args in let l = c.loop-k in turn (bare a.job a.pixels.now) a.out.now l.out l.at l.k l.invariant.0 c.loop-k-test.true c.requires.lines_fit l.invariant.1 in
     let l = c.loop-k in (
-      (turn-here).lines_next (c.write_line-size.ensures.result_value, c.write_line-size.ensures.out_after),
+      turn-here.lines_next (c.write_line-size.ensures.result_value, c.write_line-size.ensures.out_after),
       c.wrapping_add_u16-number.ensures.value ∙ ap (λ (n : ℕ). (n + 1) % 65536) l.invariant.1 ∙ written_next l.k,
     )
 

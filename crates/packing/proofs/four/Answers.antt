@@ -1,4 +1,4 @@
-use Rattle.std.proofs.Common.{◌∙◌, rules}
+use Rattle.std.proofs.Common.{◌∙◌}
 use Rattle.packing.proofs.Laws.Lanes.{lanes_masked}
 use Rattle.packing.proofs.four.Goals as goal
 

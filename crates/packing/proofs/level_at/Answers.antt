@@ -1,4 +1,4 @@
-use Rattle.std.proofs.Common.{sym, ap, rules}
+use Rattle.std.proofs.Common.{sym, ap}
 use lib.ListN.{get_or-eq_default}
 use Rattle.packing.specs.Packing.{level}
 use Rattle.packing.proofs.level_at.Goals as goal

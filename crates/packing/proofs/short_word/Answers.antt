@@ -1,4 +1,4 @@
-use Rattle.std.proofs.Common.{◌≤◌, ◌-◌, zero-le, ◌≡◌, refl, rules, arith}
+use Rattle.std.proofs.Common.{zero-le, ◌≡◌, refl, arith}
 use Rattle.packing.specs.Packing.{number}
 use Rattle.packing.proofs.Laws.Lanes.{number_more, number_room}
 use Rattle.packing.proofs.short_word.Goals as goal

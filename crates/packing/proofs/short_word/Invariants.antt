@@ -1,6 +1,5 @@
-use Rattle.std.proofs.Common.{◌≤◌, ◌-◌, zero-le, ◌≡◌, refl, rules, arith}
+use Rattle.std.proofs.Common.{◌≤◌, ◌-◌, ◌≡◌}
 use Rattle.packing.specs.Packing.{number}
-use Rattle.packing.proofs.Laws.Lanes.{number_more, number_room}
 use Rattle.packing.proofs.short_word.Given as goal
 
 abbrev pub invariant-loop-j : goal.invariant-loop-j

@@ -1,4 +1,4 @@
-use Rattle.std.proofs.Common.{rules, length, drop, replicate, set, length-set, arith, ℕ, ◌-◌, ◌≤◌, ◌<◌, zero-le, List, ◌++◌, append-nil, ◌≡◌, refl, ◌∙◌, ap}
+use Rattle.std.proofs.Common.{length, replicate, set, length-set, arith, ℕ, ◌<◌, zero-le, List, append-nil, ◌≡◌, refl, ◌∙◌, ap}
 use borrow.Author.Fill.{fill_more}
 use lib.Seq.{drop-length}
 use Rattle.slices.proofs.fill.Goals as goal

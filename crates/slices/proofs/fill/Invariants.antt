@@ -1,6 +1,4 @@
-use Rattle.std.proofs.Common.{rules, length, drop, replicate, set, length-set, arith, ℕ, ◌-◌, ◌≤◌, ◌<◌, zero-le, List, ◌++◌, append-nil, ◌≡◌, refl, ◌∙◌, ap}
-use borrow.Author.Fill.{fill_more}
-use lib.Seq.{drop-length}
+use Rattle.std.proofs.Common.{length, drop, replicate, ◌-◌, ◌≤◌, ◌++◌, ◌≡◌}
 use Rattle.slices.proofs.fill.Given as goal
 
 abbrev pub invariant-loop-i : goal.invariant-loop-i

@@ -1,4 +1,4 @@
-use Rattle.std.proofs.Common.{ℕ, ◌≡◌, sym, ◌∙◌, ap, List, arith, length, replicate, rules}
+use Rattle.std.proofs.Common.{ℕ, ◌≡◌, sym, ◌∙◌, ap, List, arith, length, replicate}
 use lib.ListN.{length-replicate}
 use Rattle.units.specs.Counts.{word_bytes}
 use Rattle.units.specs.Over.{over, zeros}

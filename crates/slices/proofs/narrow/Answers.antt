@@ -1,7 +1,5 @@
-use Rattle.std.proofs.Common.{rules, ◌-◌, ◌≤◌, zero-le, ◌≡◌, refl, sym, ◌∙◌, arith, length, drop, length-set}
-use lib.Seq.{sets}
+use Rattle.std.proofs.Common.{zero-le, refl, sym, ◌∙◌, arith, length-set}
 use Rattle.units.specs.LittleEndian.{low_bytes}
-use Rattle.units.specs.Over.{over}
 use Rattle.units.proofs.Laws.LittleEndian.{length-low, get_or-low}
 use Rattle.units.proofs.Laws.Over.{sets_over, sets-step, sets_end}
 use Rattle.slices.proofs.narrow.Goals as goal

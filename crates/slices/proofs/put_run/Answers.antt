@@ -1,4 +1,4 @@
-use Rattle.std.proofs.Common.{ℕ, ◌+◌, ◌-◌, ◌≤◌, min, ◌≡◌, sym, ◌∙◌, ap, arith, length, replicate, rules}
+use Rattle.std.proofs.Common.{ℕ, ◌+◌, ◌-◌, ◌≤◌, min, ◌≡◌, sym, ◌∙◌, ap, arith, length, replicate}
 use lib.ListN.{length-replicate}
 use borrow.Rule.Slice.PartMut.{mid_of, mid_len}
 use Rattle.units.proofs.Laws.Over.{sets_past}

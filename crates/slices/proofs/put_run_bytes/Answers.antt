@@ -1,4 +1,4 @@
-use Rattle.std.proofs.Common.{ℕ, ◌+◌, ◌-◌, ◌*◌, ◌≤◌, ◌<◌, min, max, ◌≡◌, sym, ◌∙◌, ap, arith, length, take, replicate, leb, take_all, leb-true, rules}
+use Rattle.std.proofs.Common.{ℕ, ◌+◌, ◌-◌, ◌*◌, ◌≤◌, ◌<◌, min, max, ◌≡◌, sym, ◌∙◌, ap, arith, length, take, replicate, leb, take_all, leb-true}
 use lib.ListN.{length-replicate}
 use lib.Seq.{sets}
 use borrow.Rule.Slice.PartMut.{mid_of, mid_len}
@@ -29,7 +29,7 @@ returns-then-row-at c =
 pub slice_bounds-fill_eight-end : goal.slice_bounds-fill_eight-end
 slice_bounds-fill_eight-end c =
     let short : let a = c.args in (a.n ≤ 8) × (16 ≤ length a.row.now - a.at) = let a = c.args in let b = both_true (leb a.n 8) (leb 16 (length a.row.now - a.at)) (sym c.is_short.ensures ∙ c.if-is_short.true) in (leb-true a.n 8 b.0, leb-true 16 (length a.row.now - a.at) b.1) in
-    omega (arith, (short).1)
+    omega (arith, short.1)
 
 pub overflow_add-result : goal.overflow_add-result
 overflow_add-result c =
@@ -40,7 +40,7 @@ pub returns-then-is_short : goal.returns-then-is_short
 returns-then-is_short c =
     let short : let a = c.args in (a.n ≤ 8) × (16 ≤ length a.row.now - a.at) = let a = c.args in let b = both_true (leb a.n 8) (leb 16 (length a.row.now - a.at)) (sym c.is_short.ensures ∙ c.if-is_short.true) in (leb-true a.n 8 b.0, leb-true 16 (length a.row.now - a.at) b.1) in
     let a = c.args in
-    let eight : max a.n 8 ≡ 8 = omega (arith, (short).0) in
+    let eight : max a.n 8 ≡ 8 = omega (arith, short.0) in
     let new = words_to_bytes (replicate 8 a.v) in
     let l : length new ≡ 16 = length_run 8 a.v in record { value = omega (arith, short); row_after = part_stored a.row.now new c.fill_eight.new.out a.at (a.at + 16) (omega (arith, short)) (omega (arith, short)) (c.fill_eight.ensures ∙ sym (take_all (a.at + 16 - a.at) new (omega arith))) ∙ ap (λ (n : ℕ). sets a.row.now a.at (words_to_bytes (replicate n a.v))) (sym eight) }
 
@@ -48,7 +48,7 @@ pub overflow_add-result-2 : goal.overflow_add-result-2
 overflow_add-result-2 c =
     let ends-here : let a = c.args in a.at + c.lesser-2.result ≡ min (a.at + word_bytes a.n) (length a.row.now) = let a = c.args in ends a.at a.n c.words_to_bytes-3.result.0 (length a.row.now) c.lesser-2.result c.if-row-at.false (omega arith) c.words_to_bytes-3.ensures c.lesser-2.ensures in
     let a = c.args in
-    record { fits = held (a.at + c.lesser-2.result) (a.at + word_bytes a.n) (length a.row.now) (ends-here) (omega arith) }
+    record { fits = held (a.at + c.lesser-2.result) (a.at + word_bytes a.n) (length a.row.now) ends-here (omega arith) }
 
 pub returns : goal.returns
 returns c =

@@ -1,6 +1,4 @@
-use Rattle.std.proofs.Common.{rules, ◌-◌, ◌≤◌, zero-le, ◌≡◌, refl, sym, ◌∙◌, arith, length, drop, length-set}
-use lib.Seq.{sets}
-use Rattle.units.specs.Over.{over}
+use Rattle.std.proofs.Common.{zero-le, refl, sym, ◌∙◌, arith, length-set}
 use Rattle.units.proofs.Laws.Over.{sets_over, sets-step, sets_end}
 use Rattle.slices.proofs.widen.Goals as goal
 

@@ -1,7 +1,6 @@
-use Rattle.std.proofs.Common.{rules, ◌-◌, ◌≤◌, zero-le, ◌≡◌, refl, sym, ◌∙◌, arith, length, drop, length-set}
+use Rattle.std.proofs.Common.{◌-◌, ◌≤◌, ◌≡◌, length, drop}
 use lib.Seq.{sets}
 use Rattle.units.specs.Over.{over}
-use Rattle.units.proofs.Laws.Over.{sets_over, sets-step, sets_end}
 use Rattle.slices.proofs.widen.Given as goal
 
 abbrev pub invariant-loop-i : goal.invariant-loop-i

@@ -15,7 +15,7 @@ pub slice_bounds-transcode_sheet-end-2 : goal.slice_bounds-transcode_sheet-end-2
 slice_bounds-transcode_sheet-end-2 c =
     let fits : c.sheet_layout-sheet.result.ppl ≤ length c.args.pixels.now = omega (arith, width c.args.file.now c.file_rejection-number.ensures c.if-number-ne0.false c.sheet_layout-sheet.ensures, c.requires) in
     let a = c.args in
-    sym (length-take-le c.sheet_layout-sheet.result.ppl a.pixels.now (fits))
+    sym (length-take-le c.sheet_layout-sheet.result.ppl a.pixels.now fits)
 
 pub transcode_sheet-requires : goal.transcode_sheet-requires
 transcode_sheet-requires c =

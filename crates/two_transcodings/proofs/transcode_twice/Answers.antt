@@ -27,7 +27,7 @@ slice_bounds-transcode-end c =
 pub slice_bounds-transcode-end-2 : goal.slice_bounds-transcode-end-2
 slice_bounds-transcode-end-2 c =
     let fits : c.transcode-there.result.size.0 ≤ length c.transcode-there.new.out = let a = c.args in let x = c.transcode-there.ensures in omega ( arith, size_fits a.file.now (length a.between.now) c.transcode-there.result x.result_value c.if-there-ne0.false, ap length x.out_after ∙ length_after a.file.now a.between.now, ) in
-    sym (length-take-le c.transcode-there.result.size.0 c.transcode-there.new.out (fits))
+    sym (length-take-le c.transcode-there.result.size.0 c.transcode-there.new.out fits)
 
 pub returns : goal.returns
 returns c =

@@ -8,9 +8,9 @@ use Rattle.std.proofs.lemmas.List.Edits.{sets}
 use Rattle.std.proofs.Math.Seq.{set_out, length-sets}
 use Rattle.units.specs.Counts.{word_bytes}
 use Rattle.units.specs.LittleEndian.{u16_bytes, u32_bytes}
-use Rattle.units.specs.Over.{over, zeros}
+use Rattle.units.specs.Over.{zeros}
 use Rattle.units.specs.Words.{two_bytes, words_to_bytes}
-use Rattle.units.proofs.Laws.Over.{sets_past, sets-append, over_full}
+use Rattle.units.proofs.Laws.Over.{sets_past, sets-append}
 
 pub length-bytes : (ws : List ℕ) → length (words_to_bytes ws) ≡ 2 * length ws
 unfolding words_to_bytes

@@ -1,8 +1,5 @@
-use Rattle.std.proofs.Common.{◌-◌, ◌/◌, ◌%◌, ◌^◌, ◌≤◌, zero-le, ◌≡◌, refl, sym, ◌∙◌, length, length-set, rules, arith}
-use lib.Seq.{sets}
-use Rattle.units.specs.Over.{over}
+use Rattle.std.proofs.Common.{◌-◌, ◌/◌, ◌%◌, ◌^◌, zero-le, refl, sym, ◌∙◌, length-set, arith}
 use Rattle.units.proofs.Laws.Over.{sets_over}
-use Rattle.packing.specs.Packing.{bits}
 use Rattle.packing.proofs.Laws.Weights.{bit_next, bits-end}
 use Rattle.unpacking.proofs.put_bits.Goals as goal
 

@@ -1,9 +1,7 @@
-use Rattle.std.proofs.Common.{◌-◌, ◌/◌, ◌%◌, ◌^◌, ◌≤◌, zero-le, ◌≡◌, refl, sym, ◌∙◌, length, length-set, rules, arith}
+use Rattle.std.proofs.Common.{◌-◌, ◌≤◌, ◌≡◌, length}
 use lib.Seq.{sets}
 use Rattle.units.specs.Over.{over}
-use Rattle.units.proofs.Laws.Over.{sets_over}
 use Rattle.packing.specs.Packing.{bits}
-use Rattle.packing.proofs.Laws.Weights.{bit_next, bits-end}
 use Rattle.unpacking.proofs.put_bits.Given as goal
 
 abbrev pub invariant-loop-j : goal.invariant-loop-j

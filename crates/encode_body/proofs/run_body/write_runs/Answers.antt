@@ -31,7 +31,7 @@ put_run-at-requires-in-loop-i c =
     let e = c.run_end-end.result in
     let r = pixels in
     let n = next_run r l.i e l.level c.loop-i-test.true c.run_end-end.ensures in
-    omega (arith, ap length n, length-append (level_pieces (e - l.i)) (words_from r (1 - l.level) e), l.invariant.3.ends, (started).ends, length-run_words r)
+    omega (arith, ap length n, length-append (level_pieces (e - l.i)) (words_from r (1 - l.level) e), l.invariant.3.ends, started.ends, length-run_words r)
 
 pub loop-i-preserved : goal.loop-i-preserved
 loop-i-preserved c =
@@ -54,7 +54,7 @@ returns-then-level-eq1 c =
     let l = c.loop-i in
     let r = pixels in
     let v : l.level ≡ 1 = omega arith in
-    let z : words_from r l.level l.i ≡ [] = rw v (no_run_on r l.i c.loop-i-test.false) in record { result_value = omega (arith, ap length z, l.invariant.3.ends, (started).ends, length-bytes (run_words r)); out_after = left_none z l.invariant.3 ∙ (started).puts }
+    let z : words_from r l.level l.i ≡ [] = rw v (no_run_on r l.i c.loop-i-test.false) in record { result_value = omega (arith, ap length z, l.invariant.3.ends, started.ends, length-bytes (run_words r)); out_after = left_none z l.invariant.3 ∙ started.puts }
 
 pub put_next-requires : goal.put_next-requires
 put_next-requires c =
@@ -64,7 +64,7 @@ put_next-requires c =
     let r = pixels in
     let v : l.level ≡ 0 = omega arith in
     let z : words_from r l.level l.i ≡ 0 ∷ [] = rw v (no_run_off r l.i c.loop-i-test.false) in
-    omega (arith, ap length z, l.invariant.3.ends, (started).ends, length-run_words r)
+    omega (arith, ap length z, l.invariant.3.ends, started.ends, length-run_words r)
 
 pub returns : goal.returns
 returns c =
@@ -74,4 +74,4 @@ returns c =
     let r = pixels in
     let v : l.level ≡ 0 = omega arith in
     let z : words_from r l.level l.i ≡ 0 ∷ [] = rw v (no_run_off r l.i c.loop-i-test.false) in
-    let p = left_word 0 [] z l.invariant.3 (c.put_next.ensures.value, c.put_next.ensures.out_after) in record { result_value = omega (arith, p.ends, (started).ends, length-bytes (run_words r)); out_after = left_none refl p ∙ (started).puts }
+    let p = left_word 0 [] z l.invariant.3 (c.put_next.ensures.value, c.put_next.ensures.out_after) in record { result_value = omega (arith, p.ends, started.ends, length-bytes (run_words r)); out_after = left_none refl p ∙ started.puts }

@@ -46,42 +46,42 @@ returns-then-lost-ne0 c =
 pub placement_status-placement-requires : goal.placement_status-placement-requires
 placement_status-placement-requires c =
     let frame_right : lost_by c.args.rest.now ≡ 0 = sym c.lost_status-lost.ensures ∙ c.if-lost-ne0.false in
-    let header-right : NotLost c.args.rest.now = not-lost c.args.rest.now (frame_right) in
-    (header-right).whole
+    let header-right : NotLost c.args.rest.now = not-lost c.args.rest.now frame_right in
+    header-right.whole
 
 pub returns-then-placement-ne0 : goal.returns-then-placement-ne0
 returns-then-placement-ne0 c =
     let frame_right : lost_by c.args.rest.now ≡ 0 = sym c.lost_status-lost.ensures ∙ c.if-lost-ne0.false in
     let end_is : c.size_by-used.result.0 ≡ 4 + (bytes_of_words (following (head_of c.args.rest.now))).0 = omega (arith, head_word c.args.rest.now 2 (omega arith)) in
     let a = c.args in
-    line-field a.dtc a.p a.number a.rest.now (frame_right) (end_is) c.placement_status-placement.ensures c.if-placement-ne0.true
+    line-field a.dtc a.p a.number a.rest.now frame_right end_is c.placement_status-placement.ensures c.if-placement-ne0.true
 
 pub overflow_sub-width : goal.overflow_sub-width
 overflow_sub-width c =
     let placed : let a = c.args in first (placement_rules a.p a.number (head_of a.rest.now)) ≡ 0 = sym c.placement_status-placement.ensures ∙ c.if-placement-ne0.false in
     let a = c.args in
-    omega (arith, c.pixel_offset.ensures, offset_within a.p a.number (head_of a.rest.now) (placed))
+    omega (arith, c.pixel_offset.ensures, offset_within a.p a.number (head_of a.rest.now) placed)
 
 pub slice_bounds-body_status-count : goal.slice_bounds-body_status-count
 slice_bounds-body_status-count c =
     let end_is : c.size_by-used.result.0 ≡ 4 + (bytes_of_words (following (head_of c.args.rest.now))).0 = omega (arith, head_word c.args.rest.now 2 (omega arith)) in
     let frame_right : lost_by c.args.rest.now ≡ 0 = sym c.lost_status-lost.ensures ∙ c.if-lost-ne0.false in
-    let header-right : NotLost c.args.rest.now = not-lost c.args.rest.now (frame_right) in
-    omega (arith, end_is, (header-right).words)
+    let header-right : NotLost c.args.rest.now = not-lost c.args.rest.now frame_right in
+    omega (arith, end_is, header-right.words)
 
 pub slice_bounds-body_status-start : goal.slice_bounds-body_status-start
 slice_bounds-body_status-start c =
     let end_is : c.size_by-used.result.0 ≡ 4 + (bytes_of_words (following (head_of c.args.rest.now))).0 = omega (arith, head_word c.args.rest.now 2 (omega arith)) in
     let frame_right : lost_by c.args.rest.now ≡ 0 = sym c.lost_status-lost.ensures ∙ c.if-lost-ne0.false in
-    let header-right : NotLost c.args.rest.now = not-lost c.args.rest.now (frame_right) in
-    omega (arith, end_is, (header-right).words)
+    let header-right : NotLost c.args.rest.now = not-lost c.args.rest.now frame_right in
+    omega (arith, end_is, header-right.words)
 
 pub slice_bounds-body_status-end : goal.slice_bounds-body_status-end
 slice_bounds-body_status-end c =
     let end_is : c.size_by-used.result.0 ≡ 4 + (bytes_of_words (following (head_of c.args.rest.now))).0 = omega (arith, head_word c.args.rest.now 2 (omega arith)) in
     let frame_right : lost_by c.args.rest.now ≡ 0 = sym c.lost_status-lost.ensures ∙ c.if-lost-ne0.false in
-    let header-right : NotLost c.args.rest.now = not-lost c.args.rest.now (frame_right) in
-    omega (arith, end_is, (header-right).within)
+    let header-right : NotLost c.args.rest.now = not-lost c.args.rest.now frame_right in
+    omega (arith, end_is, header-right.within)
 
 pub returns : goal.returns
 returns c =
@@ -89,5 +89,5 @@ returns c =
     let end_is : c.size_by-used.result.0 ≡ 4 + (bytes_of_words (following (head_of c.args.rest.now))).0 = omega (arith, head_word c.args.rest.now 2 (omega arith)) in
     let placed : let a = c.args in first (placement_rules a.p a.number (head_of a.rest.now)) ≡ 0 = sym c.placement_status-placement.ensures ∙ c.if-placement-ne0.false in
     let a = c.args in
-    line-body a.dtc a.p a.number a.rest.now (frame_right) (end_is) (placed) (ap (λ (n : ℕ). a.p - n) c.pixel_offset.ensures)
+    line-body a.dtc a.p a.number a.rest.now frame_right end_is placed (ap (λ (n : ℕ). a.p - n) c.pixel_offset.ensures)
     c.body_status.ensures

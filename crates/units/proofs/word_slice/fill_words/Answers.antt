@@ -1,7 +1,5 @@
-use Rattle.std.proofs.Common.{◌-◌, ◌*◌, ◌/◌, ◌≤◌, zero-le, ◌≡◌, refl, sym, ◌∙◌, arith, length, drop, replicate, length-set, rules}
-use lib.Seq.{sets, length-sets}
-use Rattle.units.specs.Over.{over}
-use Rattle.units.specs.Words.{two_bytes, words_to_bytes}
+use Rattle.std.proofs.Common.{◌/◌, zero-le, ◌≡◌, refl, sym, ◌∙◌, arith, length, length-set}
+use Rattle.units.specs.Words.{words_to_bytes}
 use Rattle.units.proofs.Laws.Over.{sets_over}
 use Rattle.units.proofs.Laws.Stores.{sets_same, same_last}
 use Rattle.units.proofs.word_slice.fill_words.Goals as goal

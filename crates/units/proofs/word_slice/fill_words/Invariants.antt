@@ -1,9 +1,7 @@
-use Rattle.std.proofs.Common.{◌-◌, ◌*◌, ◌/◌, ◌≤◌, zero-le, ◌≡◌, refl, sym, ◌∙◌, arith, length, drop, replicate, length-set, rules}
-use lib.Seq.{sets, length-sets}
+use Rattle.std.proofs.Common.{◌-◌, ◌*◌, ◌≤◌, ◌≡◌, length, drop, replicate}
+use lib.Seq.{sets}
 use Rattle.units.specs.Over.{over}
-use Rattle.units.specs.Words.{two_bytes, words_to_bytes}
-use Rattle.units.proofs.Laws.Over.{sets_over}
-use Rattle.units.proofs.Laws.Stores.{sets_same, same_last}
+use Rattle.units.specs.Words.{words_to_bytes}
 use Rattle.units.proofs.word_slice.fill_words.Given as goal
 
 abbrev pub invariant-loop-i : goal.invariant-loop-i

@@ -1,7 +1,5 @@
-use Rattle.std.proofs.Common.{◌+◌, ◌-◌, ◌*◌, ◌≤◌, ◌<◌, zero-le, ◌≡◌, refl, sym, ◌∙◌, arith, length, get_or, drop, length-set, rules}
-use lib.Seq.{sets}
+use Rattle.std.proofs.Common.{◌+◌, ◌*◌, ◌<◌, zero-le, ◌≡◌, refl, sym, ◌∙◌, arith, get_or, length-set}
 use Rattle.units.specs.LittleEndian.{u16_at}
-use Rattle.units.specs.Over.{over}
 use Rattle.units.specs.Words.{words, word_count}
 use Rattle.units.proofs.Laws.Over.{sets_over, sets-step, sets_end}
 use Rattle.units.proofs.Laws.Words.{length-words, word_at}

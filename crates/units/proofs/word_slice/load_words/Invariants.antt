@@ -1,10 +1,7 @@
-use Rattle.std.proofs.Common.{◌+◌, ◌-◌, ◌*◌, ◌≤◌, ◌<◌, zero-le, ◌≡◌, refl, sym, ◌∙◌, arith, length, get_or, drop, length-set, rules}
+use Rattle.std.proofs.Common.{◌-◌, ◌≤◌, ◌≡◌, length, drop}
 use lib.Seq.{sets}
-use Rattle.units.specs.LittleEndian.{u16_at}
 use Rattle.units.specs.Over.{over}
-use Rattle.units.specs.Words.{words, word_count}
-use Rattle.units.proofs.Laws.Over.{sets_over, sets-step, sets_end}
-use Rattle.units.proofs.Laws.Words.{length-words, word_at}
+use Rattle.units.specs.Words.{words}
 use Rattle.units.proofs.word_slice.load_words.Given as goal
 
 abbrev pub invariant-loop-i : goal.invariant-loop-i

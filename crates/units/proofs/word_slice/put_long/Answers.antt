@@ -1,4 +1,4 @@
-use Rattle.std.proofs.Common.{sym, ◌∙◌, rules}
+use Rattle.std.proofs.Common.{sym, ◌∙◌}
 use Rattle.units.specs.LittleEndian.{u32_bytes}
 use Rattle.units.proofs.Laws.Over.{sets_past}
 use Rattle.units.proofs.Laws.Stores.{long_bytes}

@@ -1,4 +1,4 @@
-use Rattle.std.proofs.Common.{sym, ◌∙◌, add-one, rules}
+use Rattle.std.proofs.Common.{sym, ◌∙◌, add-one}
 use Rattle.units.specs.Words.{two_bytes}
 use Rattle.units.proofs.Laws.Over.{sets_past}
 use Rattle.units.proofs.word_slice.put_word.Goals as goal

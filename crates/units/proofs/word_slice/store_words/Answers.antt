@@ -1,6 +1,4 @@
-use Rattle.std.proofs.Common.{◌-◌, ◌*◌, ◌≤◌, zero-le, ◌≡◌, refl, sym, ◌∙◌, arith, length, drop, length-set, rules}
-use lib.Seq.{sets}
-use Rattle.units.specs.Over.{over}
+use Rattle.std.proofs.Common.{zero-le, ◌≡◌, refl, sym, ◌∙◌, arith, length-set}
 use Rattle.units.specs.Words.{words_to_bytes}
 use Rattle.units.proofs.Laws.Over.{sets_over}
 use Rattle.units.proofs.Laws.Stores.{sets-none, sets_last, sets_pixel}
@@ -8,9 +6,6 @@ use Rattle.units.proofs.word_slice.store_words.Goals as goal
 
 pub loop-i-init : goal.loop-i-init
 loop-i-init c = (zero-le, refl, sets_over (words_to_bytes _) _)
-
--- LEFT cast-to-2 : tie.Need-overflow-cast-to-2 invariant-loop decreases-loop
--- cast-to-2 c = omega (arith, c.shared-slice-known2.given c.before.before.loop.i)
 
 pub bounds-to-i-in-loop-i : goal.bounds-to-i-in-loop-i
 bounds-to-i-in-loop-i c = simp length-set (omega arith)

@@ -1,9 +1,7 @@
-use Rattle.std.proofs.Common.{◌-◌, ◌*◌, ◌≤◌, zero-le, ◌≡◌, refl, sym, ◌∙◌, arith, length, drop, length-set, rules}
+use Rattle.std.proofs.Common.{◌-◌, ◌*◌, ◌≤◌, ◌≡◌, length, drop}
 use lib.Seq.{sets}
 use Rattle.units.specs.Over.{over}
 use Rattle.units.specs.Words.{words_to_bytes}
-use Rattle.units.proofs.Laws.Over.{sets_over}
-use Rattle.units.proofs.Laws.Stores.{sets-none, sets_last, sets_pixel}
 use Rattle.units.proofs.word_slice.store_words.Given as goal
 
 abbrev pub invariant-loop-i : goal.invariant-loop-i

@@ -1,6 +1,4 @@
-use Rattle.std.proofs.Common.{◌-◌, ◌*◌, ◌≤◌, ◌<◌, zero-le, ◌≡◌, refl, sym, ◌∙◌, arith, length, get_or, drop, length-set, rules}
-use lib.Seq.{sets}
-use Rattle.units.specs.Over.{over}
+use Rattle.std.proofs.Common.{◌<◌, zero-le, ◌≡◌, refl, sym, ◌∙◌, arith, get_or, length-set}
 use Rattle.units.specs.Words.{words_to_bytes}
 use Rattle.units.proofs.Laws.Over.{sets_over}
 use Rattle.units.proofs.Laws.Stores.{sets-none, sets_byte, byte_last}

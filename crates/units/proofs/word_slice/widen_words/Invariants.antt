@@ -1,9 +1,7 @@
-use Rattle.std.proofs.Common.{◌-◌, ◌*◌, ◌≤◌, ◌<◌, zero-le, ◌≡◌, refl, sym, ◌∙◌, arith, length, get_or, drop, length-set, rules}
+use Rattle.std.proofs.Common.{◌-◌, ◌*◌, ◌≤◌, ◌≡◌, length, drop}
 use lib.Seq.{sets}
 use Rattle.units.specs.Over.{over}
 use Rattle.units.specs.Words.{words_to_bytes}
-use Rattle.units.proofs.Laws.Over.{sets_over}
-use Rattle.units.proofs.Laws.Stores.{sets-none, sets_byte, byte_last}
 use Rattle.units.proofs.word_slice.widen_words.Given as goal
 
 abbrev pub invariant-loop-i : goal.invariant-loop-i

@@ -1,4 +1,4 @@
-use Rattle.std.proofs.Common.{lt-ltb, le-ltb, rules}
+use Rattle.std.proofs.Common.{lt-ltb, le-ltb}
 use Rattle.units.proofs.word_slice.word_start.Goals as goal
 
 pub returns-then-n-i : goal.returns-then-n-i
