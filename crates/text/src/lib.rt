@@ -1,12 +1,15 @@
-// Text put piece by piece into a lent buffer, for programs that print a line at a time.
+// Text put piece by piece into a lent buffer, for programs that print a line at a time. `read_full` reads such a program's input.
 //
-// Each function puts its text at a position and answers the position after it. Where the text does not fit, nothing is
+// Each of the others puts its text at a position and answers the position after it. Where the text does not fit, nothing is
 // stored and the position stays.
 #![tactic(auto)]
 
 ghost use Rattle.std.specs.Prelude.{◌≡◌};
 ghost use Rattle.text.specs.Put.{put_at, next_at, DecimalPut};
 
+mod input;
+
+pub use input::read_full;
 use slices::copy;
 
 pub fn put(out: &mut [u8], at: usize, text: &[u8]) -> usize
