@@ -4,39 +4,39 @@
 
 use color::{ColorAnswer, Rgb};
 use header::{Header, HeaderAnswer, Resolution};
-use libc::{STDIN_FILENO, STDOUT_FILENO};
-use text::{put, put_decimal, put_field};
+use std::io;
+use text::{put, put_decimal, put_field, read_full};
 
-fn main() {
+fn main(rt: HostRuntime) -> io::Result<()> {
     let mut space = [0u8; 140001];
-    let n = io::read_full(STDIN_FILENO, &mut space);
+    let n = read_full(&mut rt.stdin(), &mut space)?;
     if 140000 < n {
-        io::write_all(STDOUT_FILENO, b"too long\n");
-        return;
+        return rt.write_all(b"too long\n");
     }
-    show(&space[..n]);
+    show(&rt, &space[..n])
 }
 
-fn show(file: &[u8]) {
+fn show(rt: &impl Print, file: &[u8]) -> io::Result<()> {
     let mut space = [0u8; 16384];
     match header::read_header(file) {
         HeaderAnswer::Rejected(number) => {
             let end = put_rejection(&mut space, 0, number);
-            print(&space, end);
+            print(rt, &space, end)
         }
         HeaderAnswer::Accepted(h) => {
             let at = put_header(&mut space, h);
             let end = put_colors(&mut space, at, file);
-            print(&space, end);
+            print(rt, &space, end)
         }
     }
 }
 
 // Writes the first `end` bytes.
-fn print(text: &[u8], end: usize) {
+fn print(rt: &impl Print, text: &[u8], end: usize) -> io::Result<()> {
     if end <= text.len() {
-        io::write_all(STDOUT_FILENO, &text[..end]);
+        return rt.write_all(&text[..end]);
     }
+    Ok(())
 }
 
 fn put_rejection(out: &mut [u8], at: usize, number: u16) -> usize {

@@ -3,34 +3,38 @@
 #![tactic(auto)]
 
 use decode_raster::RasterAnswer;
-use libc::{STDIN_FILENO, STDOUT_FILENO};
-use text::{put, put_decimal, put_field};
+use std::io;
+use text::{put, put_decimal, put_field, read_full};
 
-fn main() {
+fn main(rt: HostRuntime) -> io::Result<()> {
     let mut space = [0u8; 32769];
-    let n = io::read_full(STDIN_FILENO, &mut space);
+    let n = read_full(&mut rt.stdin(), &mut space)?;
     if 32768 < n {
-        io::write_all(STDOUT_FILENO, b"too long\n");
-        return;
+        return rt.write_all(b"too long\n");
     }
-    list(&space[..n]);
+    list(&rt, &space[..n])
 }
 
 // The buffers hold old pixels and marks on purpose: whatever the reading left as it was shows in the listing.
-fn list(file: &[u8]) {
+fn list(rt: &impl Print, file: &[u8]) -> io::Result<()> {
     let mut pixels = [65535u16; 8192];
     let mut marks = [255u8; 256];
     let r = decode_raster::read_raster(file, &mut pixels, &mut marks);
-    show(file, r, &pixels, &marks);
+    show(rt, file, r, &pixels, &marks)
 }
 
 // Numbers from 10 on are rejections.
-fn show(file: &[u8], r: RasterAnswer, pixels: &[u16], marks: &[u8]) {
+fn show(
+    rt: &impl Print,
+    file: &[u8],
+    r: RasterAnswer,
+    pixels: &[u16],
+    marks: &[u8],
+) -> io::Result<()> {
     let mut out = [0u8; 65536];
     if 10 <= r.answer {
         let end = put_rejection(&mut out, r.answer);
-        print(&out, end);
-        return;
+        return print(rt, &out, end);
     }
     let h = fields::fields_of(file);
     let size = put_size(&mut out, h.dtc, h.ppl, h.nol);
@@ -43,14 +47,15 @@ fn show(file: &[u8], r: RasterAnswer, pixels: &[u16], marks: &[u8]) {
         pixels,
         marks,
     );
-    print(&out, end);
+    print(rt, &out, end)
 }
 
 // Writes the first `end` bytes.
-fn print(text: &[u8], end: usize) {
+fn print(rt: &impl Print, text: &[u8], end: usize) -> io::Result<()> {
     if end <= text.len() {
-        io::write_all(STDOUT_FILENO, &text[..end]);
+        return rt.write_all(&text[..end]);
     }
+    Ok(())
 }
 
 fn put_rejection(out: &mut [u8], number: u32) -> usize {

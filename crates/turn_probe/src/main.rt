@@ -7,71 +7,77 @@
 // one of them is above its limit; else `short` where pixels are missing.
 #![tactic(auto)]
 
-use libc::{STDIN_FILENO, STDOUT_FILENO};
 use orient::{picture_size, turn, turn_back};
 use slices::fill;
-use text::{put, put_field};
+use std::io;
+use text::{put, put_field, read_full};
 use units::{Words, load_words, store_words, u32_at, word_count, words_to_bytes};
 
-fn main() {
+fn main(rt: HostRuntime) -> io::Result<()> {
     let mut space = [0u8; 120028];
-    let n = io::read_full(STDIN_FILENO, &mut space);
-    probe(&space[..n]);
+    let n = read_full(&mut rt.stdin(), &mut space)?;
+    probe(&rt, &space[..n])
 }
 
-fn probe(input: &[u8]) {
+fn probe(rt: &impl Print, input: &[u8]) -> io::Result<()> {
     let mut read = [0u16; 60000];
     let mut filled = [0u16; 60000];
-    run(input, &mut read, &mut filled);
+    run(rt, input, &mut read, &mut filled)
 }
 
 // The buffers have room for the most that is taken.
-fn run(input: &[u8], read: &mut [u16], filled: &mut [u16]) {
+fn run(rt: &impl Print, input: &[u8], read: &mut [u16], filled: &mut [u16]) -> io::Result<()> {
     if input.len() < 28 {
-        io::write_all(STDOUT_FILENO, b"short\n");
-        return;
+        return rt.write_all(b"short\n");
     }
     let n = u32_at(input, 16) as usize;
     let m = u32_at(input, 20) as usize;
     if read.len() < n {
-        io::write_all(STDOUT_FILENO, b"too long\n");
-        return;
+        return rt.write_all(b"too long\n");
     }
     if filled.len() < m {
-        io::write_all(STDOUT_FILENO, b"too long\n");
-        return;
+        return rt.write_all(b"too long\n");
     }
-    run_within(input, &input[28..], &mut read[..n], &mut filled[..m]);
+    run_within(rt, input, &input[28..], &mut read[..n], &mut filled[..m])
 }
 
 // The buffers are as long as is asked for; `given` is what follows the numbers.
-fn run_within(input: &[u8], given: &[u8], read: &mut [u16], filled: &mut [u16]) {
+fn run_within(
+    rt: &impl Print,
+    input: &[u8],
+    given: &[u8],
+    read: &mut [u16],
+    filled: &mut [u16],
+) -> io::Result<()> {
     let way = u32_at(input, 0);
     let value = u32_at(input, 24);
     if 1 < way {
-        io::write_all(STDOUT_FILENO, b"too long\n");
-        return;
+        return rt.write_all(b"too long\n");
     }
     if 65535 < value {
-        io::write_all(STDOUT_FILENO, b"too long\n");
-        return;
+        return rt.write_all(b"too long\n");
     }
     if word_count(given).0 < read.len() {
-        io::write_all(STDOUT_FILENO, b"short\n");
-        return;
+        return rt.write_all(b"short\n");
     }
     load_words(given, read);
     fill(filled, value as u16);
-    turn_given(way, input, read, filled);
+    turn_given(rt, way, input, read, filled)
 }
 
-fn turn_given(way: u32, input: &[u8], read: &[u16], filled: &mut [u16]) {
+fn turn_given(
+    rt: &impl Print,
+    way: u32,
+    input: &[u8],
+    read: &[u16],
+    filled: &mut [u16],
+) -> io::Result<()> {
     let slo = u32_at(input, 4);
     let ppl = u32_at(input, 8);
     let nol = u32_at(input, 12);
     let number = turn_either(way, slo, ppl, nol, read, filled);
-    print_answer(number, slo, ppl, nol);
-    print_pixels(filled);
+    print_answer(rt, number, slo, ppl, nol)?;
+    print_pixels(rt, filled)
 }
 
 fn turn_either(way: u32, slo: u32, ppl: u32, nol: u32, read: &[u16], filled: &mut [u16]) -> u32 {
@@ -81,10 +87,10 @@ fn turn_either(way: u32, slo: u32, ppl: u32, nol: u32, read: &[u16], filled: &mu
     turn_back(slo, ppl, nol, read, filled)
 }
 
-fn print_answer(number: u32, slo: u32, ppl: u32, nol: u32) {
+fn print_answer(rt: &impl Print, number: u32, slo: u32, ppl: u32, nol: u32) -> io::Result<()> {
     let mut line = [0u8; 64];
     let end = put_answer(&mut line, number, slo, ppl, nol);
-    print(&line, end);
+    print(rt, &line, end)
 }
 
 fn put_answer(out: &mut [u8], number: u32, slo: u32, ppl: u32, nol: u32) -> usize {
@@ -99,14 +105,15 @@ fn put_answer(out: &mut [u8], number: u32, slo: u32, ppl: u32, nol: u32) -> usiz
 }
 
 // Writes the first `end` bytes.
-fn print(text: &[u8], end: usize) {
+fn print(rt: &impl Print, text: &[u8], end: usize) -> io::Result<()> {
     if end <= text.len() {
-        io::write_all(STDOUT_FILENO, &text[..end]);
+        return rt.write_all(&text[..end]);
     }
+    Ok(())
 }
 
-fn print_pixels(pixels: &[u16]) {
+fn print_pixels(rt: &impl Print, pixels: &[u16]) -> io::Result<()> {
     let mut bytes = [0u8; 120000];
     store_words(pixels, &mut bytes);
-    print(&bytes, words_to_bytes(Words(pixels.len())).0);
+    print(rt, &bytes, words_to_bytes(Words(pixels.len())).0)
 }

@@ -8,67 +8,66 @@
 
 use encode_answer::WriteAnswer;
 use encode_raster::write_raster;
-use libc::{STDIN_FILENO, STDOUT_FILENO};
-use text::{put, put_field};
+use std::io;
+use text::{put, put_field, read_full};
 use units::{load_words, u32_at, word_count};
 
-fn main() {
+fn main(rt: HostRuntime) -> io::Result<()> {
     let mut space = [0u8; 400001];
-    let n = io::read_full(STDIN_FILENO, &mut space);
+    let n = read_full(&mut rt.stdin(), &mut space)?;
     if 400000 < n {
-        io::write_all(STDOUT_FILENO, b"too long\n");
-        return;
+        return rt.write_all(b"too long\n");
     }
-    probe(&space[..n]);
+    probe(&rt, &space[..n])
 }
 
-fn probe(input: &[u8]) {
+fn probe(rt: &impl Print, input: &[u8]) -> io::Result<()> {
     let mut pixels = [0u16; 150000];
     let mut out = [0u8; 400000];
-    run(input, &mut pixels, &mut out);
+    run(rt, input, &mut pixels, &mut out)
 }
 
 // The pixels and the output have room for the most that is taken.
-fn run(input: &[u8], pixels: &mut [u16], out: &mut [u8]) {
+fn run(rt: &impl Print, input: &[u8], pixels: &mut [u16], out: &mut [u8]) -> io::Result<()> {
     if input.len() < 40 {
-        io::write_all(STDOUT_FILENO, b"short\n");
-        return;
+        return rt.write_all(b"short\n");
     }
     let count = u32_at(input, 28) as usize;
     let room = u32_at(input, 32) as usize;
     if pixels.len() < count {
-        io::write_all(STDOUT_FILENO, b"too long\n");
-        return;
+        return rt.write_all(b"too long\n");
     }
     if out.len() < room {
-        io::write_all(STDOUT_FILENO, b"too long\n");
-        return;
+        return rt.write_all(b"too long\n");
     }
-    run_within(input, &mut pixels[..count], &mut out[..room]);
+    run_within(rt, input, &mut pixels[..count], &mut out[..room])
 }
 
 // The pixels are as many as are given, and the output as long as is asked for.
-fn run_within(input: &[u8], pixels: &mut [u16], out: &mut [u8]) {
+fn run_within(rt: &impl Print, input: &[u8], pixels: &mut [u16], out: &mut [u8]) -> io::Result<()> {
     let table = u32_at(input, 24) as usize;
     if 2000 < table {
-        io::write_all(STDOUT_FILENO, b"too long\n");
-        return;
+        return rt.write_all(b"too long\n");
     }
     let from = 40 + table;
     if input.len() < from {
-        io::write_all(STDOUT_FILENO, b"short\n");
-        return;
+        return rt.write_all(b"short\n");
     }
     if word_count(&input[from..]).0 < pixels.len() {
-        io::write_all(STDOUT_FILENO, b"short\n");
-        return;
+        return rt.write_all(b"short\n");
     }
     load_words(&input[from..], pixels);
     fill_bytes(out, (u32_at(input, 36) % 256) as u8);
-    write_given(input, &input[40..from], pixels, out);
+    write_given(rt, input, &input[40..from], pixels, out)
 }
 
-fn write_given(input: &[u8], table: &[u8], pixels: &[u16], out: &mut [u8]) {
+fn write_given(
+    rt: &impl Print,
+    input: &[u8],
+    table: &[u8],
+    pixels: &[u16],
+    out: &mut [u8],
+) -> io::Result<()> {
     let drs = (u32_at(input, 20) % 65536) as u16;
     let answer = write_raster(
         u32_at(input, 0),
@@ -81,14 +80,14 @@ fn write_given(input: &[u8], table: &[u8], pixels: &[u16], out: &mut [u8]) {
         pixels,
         out,
     );
-    print_answer(answer);
-    io::write_all(STDOUT_FILENO, out);
+    print_answer(rt, answer)?;
+    rt.write_all(out)
 }
 
-fn print_answer(answer: WriteAnswer) {
+fn print_answer(rt: &impl Print, answer: WriteAnswer) -> io::Result<()> {
     let mut line = [0u8; 64];
     let end = put_answer(&mut line, answer);
-    print(&line, end);
+    print(rt, &line, end)
 }
 
 fn put_answer(out: &mut [u8], answer: WriteAnswer) -> usize {
@@ -101,10 +100,11 @@ fn put_answer(out: &mut [u8], answer: WriteAnswer) -> usize {
 }
 
 // Writes the first `end` bytes.
-fn print(text: &[u8], end: usize) {
+fn print(rt: &impl Print, text: &[u8], end: usize) -> io::Result<()> {
     if end <= text.len() {
-        io::write_all(STDOUT_FILENO, &text[..end]);
+        return rt.write_all(&text[..end]);
     }
+    Ok(())
 }
 
 fn fill_bytes(out: &mut [u8], b: u8) {
