@@ -1,6 +1,6 @@
 #!/usr/bin/env bash
 # Tries `./list` on a copy of the repository: what it lists, what it refuses, and that it never runs a program whose source
-# changed since. Its last line is 'N passed, M failed'. It takes the proofs as they stand in target/, so run it after them.
+# changed since. Its last line is 'N passed, M failed'. It takes the program as `./programs` left it, so run it after that.
 set -uo pipefail
 cd "$(dirname "$0")/.." || exit 1
 room=$(mktemp -d)
@@ -8,7 +8,8 @@ trap 'rm -rf "$room"' EXIT
 chmod 755 "$room"
 copy=$room/copy
 mkdir "$copy"
-cp -a crates crates.txt list samples target "$copy"
+# What `rt` keeps for its next check is large, and not needed here.
+tar -c --exclude='crates/*/out/incremental' crates crates.txt list samples target/bin tools/building.sh | tar -x -C "$copy"
 sample=$copy/samples/boundary_damaged.rle
 passed=0 failed=0
 
@@ -37,8 +38,9 @@ try() {
 listed() { [ "$status" = 0 ] && cmp -s "$room/out" "$room/right" && [ ! -s "$room/err" ]; }
 # Nothing on standard output, this status, and these words on standard error.
 refused() { [ "$status" = "$1" ] && [ ! -s "$room/out" ] && grep -qF -- "$2" "$room/err"; }
-# A new program was run, and a line on standard error names each crate that was proved.
-rebuilt() { [ "$status" = 0 ] && [ "$(cat "$room/out")" = "built anew" ] && [ "$(grep -c '^list: .* proved (1 s)$' "$room/err")" = 2 ]; }
+# The new program was run, and a line on standard error names each crate that was proved: so many.
+rebuilt() { [ "$status" = 0 ] && [ "$(cat "$room/out")" = "built anew" ] && [ "$(grep -c '^list: .* proved ([0-9]* s)$' "$room/err")" = "$1" ]; }
+gone() { [ ! -e "$1" ]; }
 
 "$copy/target/bin/listing" <"$sample" >"$room/right"
 "$copy/target/bin/listing" <"$copy/samples/sideways.rle" | cat "$room/right" - >"$room/both"
@@ -86,6 +88,17 @@ else
     echo "list: an unreadable file: not tried, as root can read any and cannot be nobody here"
 fi
 
+if [ -e /proc/self/mem ]; then
+    list "$copy" ./list /proc/self/mem
+    try "a file that breaks off" refused 2 "could not be read to its end"
+fi
+if [ -e /dev/full ]; then
+    (cd "$copy" && ./list "$sample") >/dev/full 2>"$room/err" </dev/null
+    status=$?
+    : >"$room/out"
+    try "a listing that nothing can take" refused 2 "or the listing not be written"
+fi
+
 mkdir "$room/bare"
 for command in bash dirname readlink mktemp mkdir rm tail; do ln -s "$(command -v $command)" "$room/bare"; done
 list "$copy" env PATH="$room/bare" ./list "$sample"
@@ -95,31 +108,41 @@ try "no rt" refused 2 "rt is not on the PATH"
 echo 'fn' >>"$copy/crates/listing/src/main.rt"
 list "$copy" ./list "$sample"
 try "a source that does not compile" refused 1 "could not be built"
-try "the end of what rt said" grep -q '^rt: .*NOT PROVED' "$room/err"
+try "the end of what rt said" grep -q '^src/main.rt:.*error' "$room/err"
+try "the program of before is gone" gone "$copy/target/bin/listing"
 cp -a crates/listing/src/main.rt "$copy/crates/listing/src/main.rt"
 
-# From here on a stand-in for rt, which builds in no time.
+# From here on a stand-in for rt, which builds in no time. As rt does, it runs what it built.
 mkdir "$room/stand-in"
 cat >"$room/stand-in/rt" <<'EOF'
 #!/bin/sh
-[ -e target/stamp/listing ] && echo "rt: listing proved (unchanged since it was last proved)" && exit
-printf '#!/bin/sh\necho built anew\n' >target/bin/listing
-chmod +x target/bin/listing
-touch target/stamp/listing
-echo "rt: text proved (1 s)"
-echo "rt: listing proved (1 s)"
+if [ -e out/listing.stamp ] && [ -e out/listing ]; then
+    echo "rt: nothing has changed since the last proved build, by out/listing.stamp, so nothing is checked now" >&2
+else
+    printf '#!/bin/sh\necho built anew\n' >out/listing
+    chmod +x out/listing
+    touch out/listing.stamp
+    for crate in text listing; do printf 'crate %s: modules loaded=1 checked=1\nlogic=proved functions=1\n' $crate >&2; done
+fi
+out/listing
 EOF
 chmod +x "$room/stand-in/rt"
 PATH=$room/stand-in:$PATH
-rm -f "$copy/target/stamp/listing"
+rm -f "$copy/crates/listing/out/listing.stamp"
 list "$copy" ./list "$sample"
-try "a program that is built anew" rebuilt
+try "a program that is built anew" rebuilt 2
+list "$copy" ./list "$sample"
+try "a program that was built anew before" rebuilt 0
+rm "$copy/crates/listing/out/listing"
+list "$copy" ./list "$sample"
+try "a program that was removed" rebuilt 2
 rm "$copy/target/bin/listing"
 list "$copy" ./list "$sample"
-try "a program that was removed" rebuilt
+try "a program that was removed where it is run" rebuilt 0
 printf '#!/bin/sh\nexit 1\n' >"$room/stand-in/rt"
 list "$copy" ./list "$sample"
 try "an rt that fails and says nothing" refused 1 "could not be built"
+try "the program of before is gone again" gone "$copy/target/bin/listing"
 
 echo "$passed passed, $failed failed"
 [ "$failed" -eq 0 ] && [ "$passed" -gt 0 ]
