@@ -39,3 +39,9 @@ build() {
     rm -f "target/bin/$name"
     return 1
 }
+
+# Ends without a program: the end of what rt said, but for its counts of modules, is shown.
+lacking() {
+    grep -vE '^(statements|library|logic) ' "$log" | tail -n 20 >&2
+    fail 1 "$1 could not be built; the end of what rt said is above"
+}
