@@ -1,30 +1,38 @@
 #!/usr/bin/env python3
 """Looks at every must-fail edit after it was tried: it was refused, by the fact that it names, and it keeps the code's shape.
 
+    edits.py LOG       what `rt ci`, or `rt must-fail`, said of each edit
+
 An edit is a wrong program or a wrong definition. It shows something only where the prover refuses it because a fact no longer
 holds. One that merely made a proof unfit for the code, because a step was added, dropped or renamed, would be refused however
 right the program was.
 
-An edit's file has a comment, a line `fact: PLACE NAME`, and then `file:`, `old:` and `new:` lines. PLACE is a function, as
-`module/function`, or a file of laws, as `specs/laws/Law.antt`; NAME is the need or the law that is refused first.
+An edit's file has a comment, a comment `# fact: PLACE NAME`, and then `file:`, `old:` and `new:` lines. PLACE is a function, as
+`module/function`, or a file of laws, as `proofs/Laws/Law.antt`; NAME is the goal or the law that is refused first. What is said
+of an edit is cut after 160 characters: a NAME that goes on past them ends in `..`.
 """
-import concurrent.futures
 import functools
-import os
 import pathlib
 import re
-import subprocess
 import sys
-import tempfile
-import threading
 
 ROOT = pathlib.Path(__file__).resolve().parent.parent
-TRIED = ROOT / 'target' / 'must-fail'
-LINES = ('# ', 'fact: ', 'file: ', 'old: ', 'new: ')
-COMPARISONS = {'lt', 'le', 'gt', 'ge', 'eq', 'ne'}
-LEAVES = {'true': '_', 'false': '_', 'eq': 'comparison', 'ne': 'comparison'}
+LINES = ('# ', 'file: ', 'old: ', 'new: ')
+FACT = '# fact: '
+SAID = re.compile(r'rt: must-fail (\w+)/(\S+?)\.edit: (.*)')
+REFUSED = re.compile(r'refused, as it must be(?: \((only .*?)\))?(?:: (.*))?$')
+# How much of what refuses an edit is said.
+CUT = 160
+PLACED = re.compile(r'(?:note: )?(?:\./)?((?:src|specs|proofs)/\S+?):(\d+):\d+: (.*)')
+# Proofs of a function, by the file that has them.
+PROOFS = re.compile(r'proofs/(.*)/(?:Answers|Invariants|Proof)\.antt')
 # What the prover says where a proof does not fit the code any more.
-UNFIT = re.compile(r'has no `?Need-|(expected|has) type `(tie\.)?Need-|no field `|takes (more|fewer) arguments|too many arguments|applied to an argument but has type|λ has \d+ binder')
+UNFIT = re.compile(r"is not in scope|has no `|has no field|was not admitted|no field `|takes (more|fewer) arguments|too many arguments"
+                   r"|applied to an argument but has type|λ has \d+ binder|has the type `[^`]*goal\.|(expected|has) type `goal\.")
+CLAUSE = re.compile(r'\b(?:requires|ensures|ghost|decreases)\b\*?\s*\w*\s*\{')
+TOKEN = re.compile(r"\d\w*(?:\.\d\w*)?|'\w+|[^\W\d]\w*|::|->|=>|\.\.=?|<<=?|>>=?|[-+*/%&|^=!<>]=|&&|\|\||\S")
+KEYWORDS = set('as break const continue crate else enum extern fn for if in let loop match mod move mut pub return static struct unsafe use while'.split())
+COMPARISONS = {'<', '<=', '>', '>=', '==', '!='}
 
 
 def faults_of_text(text):
@@ -33,145 +41,256 @@ def faults_of_text(text):
     odd = [line for line in lines if not line.startswith(LINES) and line != 'new:']
     if odd:
         yield f'a line that nothing reads: {odd[0]!r}'
-    if not lines or not lines[0].startswith('# '):
+    if not lines or not lines[0].startswith('# ') or lines[0].startswith(FACT):
         yield 'no comment that says what is wrong'
-    if sum(line.startswith('fact: ') for line in lines) != 1:
-        yield 'not one `fact:` line'
+    if sum(line.startswith(FACT) for line in lines) != 1:
+        yield 'not one `# fact:` line'
     if not any(line.startswith('old: ') for line in lines):
         yield 'no `old:` line'
 
 
-def first_refusal(log, crate):
-    """The place and the name of what is refused first, but for what only rests on it; and what the prover said of it."""
+def fact_of(text):
+    return ''.join(line[len(FACT):].strip() for line in text.splitlines() if line.startswith(FACT))
+
+
+def said_of(log):
+    """What was said of each edit, by its crate and name; the last word counts, and a second one that differs is a fault."""
+    found = {}
     for line in log.splitlines():
-        found = re.match(r'\S*/must-fail/[^/]+/[^/]+/(\S+?):\d+:\d+: error: `([^`]+)`: (.*)', line)
-        if found and ' was not admitted ' not in found[3]:
-            return place_of(found[1]), found[2], found[3]
-    for line in log.splitlines():
-        found = re.match(rf'fn {crate}::(\S+): no proof: .*`search` does not close `([^`]+)`', line)
-        if found:
-            return found[1].replace('::', '/'), found[2], line
-    return None
+        if said := SAID.match(line):
+            found.setdefault((said[1], said[2]), []).append(said[3])
+    return found
+
+
+def first_refusal(said, crate):
+    """The place and the name of what refuses an edit, and what was said of it, of what `rt` says after the edit's name."""
+    found = REFUSED.match(said)
+    if not found or not found[2]:
+        return None
+    text = found[2]
+    placed = PLACED.match(text)
+    if not placed:
+        return None
+    path, line, rest = placed[1], int(placed[2]), placed[3]
+    if text.startswith('note: '):
+        # a goal that nothing answers: it stands in parentheses after what is not proved
+        goal = re.search(r"\(`([\w'-]+)(?:`\)|$)", rest)
+        name = goal[1] if goal else ''
+        is_cut = not goal or not goal[0].endswith(')')
+        place = function_at(crate, path, line) if path.startswith('src/') else path
+    else:
+        named = re.match(r"error: `([^`]+)(`: )?", rest)
+        if not named:
+            return None
+        name, is_cut = named[1], not named[2]
+        place = place_of(path)
+    if is_cut and len(text) < CUT:
+        return None
+    return place, name + '..' * is_cut, text
 
 
 def place_of(path):
-    found = re.fullmatch(r'proofs/(.*)/Proof\.antt', path)
+    found = PROOFS.fullmatch(path)
     return found[1] if found else path
 
 
-def faults_of_log(log, crate, fact):
+def faults_of_said(said, crate, fact):
     """What is wrong with how an edit was refused."""
-    first = first_refusal(log, crate)
-    if first is None:
-        yield 'no refusal in its log'
+    found = REFUSED.match(said)
+    if not found:
+        yield f'it was not refused: {said[:200]}'
         return
-    place, name, said = first
-    if UNFIT.search(said):
-        yield f'its proof does not fit the code: {said[:160]}'
-    if place.startswith('specs/') and not place.startswith('specs/laws/'):
-        yield f'{place} itself is refused, not a law of it'
+    if found[1]:
+        yield f'refused, but {found[1]}'[:300]
+        return
+    first = first_refusal(said, crate)
+    if first is None:
+        yield f'no fact that refuses it is named: {said[:200]}'
+        return
+    place, name, text = first
+    if UNFIT.search(text):
+        yield f'its proof does not fit the code: {text}'
+    if place.startswith(('specs/', 'src/')):
+        yield f'{place} itself is refused, and no law or promise of it'
     if f'{place} {name}' != fact:
         yield f'refused at `{place} {name}`, and says `{fact}`'
 
 
-def tree(text):
-    """The expression that a text in parentheses stands for, as nested lists."""
-    stack = [[]]
-    for token in re.findall(r'"[^"]*"|[()]|[^\s()]+', text):
-        if token == '(':
-            stack.append([])
-        elif token == ')':
-            done = stack.pop()
-            stack[-1].append(done)
-        else:
-            stack[-1].append(token)
-    return stack[0]
+def blanked(text):
+    """A source text without its comments, clauses and attributes, line by line as it was."""
+    blank = lambda part: re.sub(r'[^\n]', ' ', part)
+    out, at = [], 0
+    for found in re.finditer(r'//[^\n]*|/\*.*?\*/|b?"(?:\\.|[^"\\])*"', text, re.S):
+        # what stands between quotes may look like anything
+        kept = '"' + blank(found[0][1:-1]) + '"' if found[0][-1] == '"' else blank(found[0])
+        out += [text[at:found.start()], kept]
+        at = found.end()
+    text = ''.join(out) + text[at:]
+    for pattern, pair in ((re.compile(r'#!?\['), '[]'), (CLAUSE, '{}')):
+        out, at = [], 0
+        for found in pattern.finditer(text):
+            if found.start() >= at:
+                end = closing(text, found.end() - 1, pair)
+                out += [text[at:found.start()], blank(text[found.start():end])]
+                at = end
+        text = ''.join(out) + text[at:]
+    return re.sub(r'\bghost use\b[^;]*;', lambda found: blank(found[0]), text)
 
 
-def shape(node):
-    """An expression without its operands: what is read, constants and the kind of a comparison."""
-    if not isinstance(node, list) or not node:
-        return node
-    if node[0] in ('copy', 'move', 'int', 'bool') or node == ['unit']:
-        return '_'
-    if isinstance(node[0], str) and node[0] in COMPARISONS:
-        return 'comparison'
-    if node[0] == 'arm':
-        # the numbers that an arm of a `match` is for
-        node = ['arm', '_', *node[2:]]
-    return [LEAVES.get(child, child) if isinstance(child, str) else shape(child) for child in node]
+def closing(text, start, pair):
+    """The place after the bracket that closes the one at `start`."""
+    depth = 0
+    for at in range(start, len(text)):
+        depth += (text[at] == pair[0]) - (text[at] == pair[1])
+        if depth == 0:
+            return at + 1
+    return len(text)
+
+
+def spans(text):
+    """The functions of a blanked source text: the name of each, and where it begins and ends. It begins where the one before it
+    ends, so that the clauses and comments that stand above a body are its own; what lies between them has no name."""
+    at = 0
+    for found in re.finditer(r'\bfn\s+(\w+)', text):
+        start = text.find('{', found.end())
+        if found.start() < at or start < 0:
+            continue
+        end = closing(text, start, '{}')
+        yield found[1], at, found.start(), end
+        at = end
+
+
+def module_of(path):
+    parts = pathlib.PurePath(path).with_suffix('').parts[1:]
+    parts = parts[:-1] if parts[-1] in ('lib', 'main', 'mod') else parts
+    return ''.join(f'{part}/' for part in parts)
 
 
 @functools.cache
-def functions(crate, stand_in=None):
-    """The shape of each function of a crate, from its code in steps; of an edited crate, which stands in for its original among
-    the others. Each run has a folder for logs of its own, so that several can go on side by side."""
-    with tempfile.TemporaryDirectory() as room:
-        root = pathlib.Path(room)
-        (root / 'crates').mkdir()
-        (root / 'target' / 'log').mkdir(parents=True)
-        for other in (ROOT / 'crates').iterdir():
-            (root / 'crates' / other.name).symlink_to(stand_in if stand_in and other.name == crate else other)
-        (root / 'crates.txt').symlink_to(ROOT / 'crates.txt')
-        for part in ('rlib', 'stamp'):
-            (root / 'target' / part).symlink_to(ROOT / 'target' / part)
-        run = subprocess.run(['rt', 'mir', crate], cwd=root, capture_output=True, text=True)
-    start = run.stdout.find('program ')
-    if run.returncode != 0 or start < 0:
-        raise SystemExit(f'rt mir {crate}: {run.stdout[-300:]} {run.stderr[-300:]}')
-    found = {}
+def functions(crate, path):
+    text = blanked((ROOT / 'crates' / crate / path).read_text())
+    return [(name, text.count('\n', 0, end) + 1) for name, _, _, end in spans(text)]
 
-    def collect(node):
-        if isinstance(node, list):
-            if len(node) > 2 and node[0] == 'fn-def':
-                found[node[1]] = shape(node[2])
-            for child in node:
-                collect(child)
 
-    collect(tree(run.stdout[start:]))
+def function_at(crate, path, line):
+    """The function that has a line of a source file. An edit puts one line for one, so that it is the same line in its copy."""
+    name = next((name for name, last in functions(crate, path) if line <= last), '')
+    return module_of(path) + name if name else path
+
+
+def shape(code):
+    """Code without its operands: what is read, constants, names and the kind of a comparison. What is called, what is computed
+    and cast, what is written, and where it branches and loops stay, in their order."""
+    tokens = re.sub(r'(?<!&)\bmut\b', '', code)
+    tokens, out = TOKEN.findall(tokens), []
+    for at, token in enumerate(tokens):
+        after = tokens[at + 1] if at + 1 < len(tokens) else ''
+        if token == '::' or after == '::':
+            continue
+        if token in COMPARISONS:
+            out.append('comparison')
+        elif not re.match(r'\w', token) or token in KEYWORDS or out[-1:] in (['as'], ['fn']) or token[0].isalpha() and after in ('(', '!') or is_type(token) and after == '{':
+            out.append(token)
+        else:
+            out.append('_')
+    line = ' '.join(out)
+    # a field is a part of what is read, and not a step
+    line = re.sub(r'_(?: \. _)+(?! \()', '_', line)
+    # the type of a local, and the name of a field that is given a value
+    line = re.sub(r'\blet _ : [^=;]*(?=[=;])', 'let _ ', line)
+    line = re.sub(r'\b_ : ', '', line)
+    # the numbers that an arm of a `match` is for
+    line = re.sub(r'_(?: \| _)+(?= =>| if)', '_', line)
+    return listed(line.split(), [0])
+
+
+def is_type(token):
+    return token[0].isupper() and token != token.upper()
+
+
+def listed(tokens, at):
+    """Tokens up to the bracket that closes them. Of what is handed over together, the parts that are made come first, as they are
+    made before, and then those that are only read."""
+    parts = [[]]
+    while at[0] < len(tokens):
+        token = tokens[at[0]]
+        at[0] += 1
+        if token in ')]}':
+            break
+        if token == ',':
+            parts.append([])
+        elif token in '([{':
+            parts[-1].append(f'{token} {listed(tokens, at)} {tokens[at[0] - 1]}')
+        else:
+            parts[-1].append(token)
+    return ' , '.join(sorted((' '.join(part) for part in parts if part), key=lambda part: part == '_'))
+
+
+def shapes(text):
+    """The shape of each function of a source text, and under no name that of the rest."""
+    text = blanked(text)
+    found, rest, at = {}, [], 0
+    for name, _, start, end in spans(text):
+        rest.append(text[at:start])
+        found[name] = shape(text[start:end])
+        at = end
+    found[''] = shape(' '.join([*rest, text[at:]]))
     return found
 
 
-def other_shapes(crate, edited):
+def edited(crate, text):
+    """The source files that an edit changes, each as it is and as the edit makes it; what cannot be applied is said by `rt`."""
+    path, old, files = '', None, {}
+    for line in text.splitlines():
+        if line.startswith('file: '):
+            path = line[6:].strip()
+        elif line.startswith('old: '):
+            old = line[5:]
+        elif line.startswith('new:') and old is not None and path.startswith('src/'):
+            before = files.setdefault(path, [(ROOT / 'crates' / crate / path).read_text()] * 2)
+            files[path] = [before[0], before[1].replace(old, line[4:].removeprefix(' '))]
+    return files
+
+
+def other_shapes(crate, text):
     """The functions whose shape an edit changes."""
-    before, now = functions(crate), functions(crate, edited)
-    return sorted(name for name in before.keys() | now.keys() if before.get(name) != now.get(name))
+    for path, (before, now) in sorted(edited(crate, text).items()):
+        before, now = shapes(before), shapes(now)
+        for name in sorted(before.keys() | now.keys()):
+            if before.get(name) != now.get(name):
+                yield module_of(path) + (name or f'{path} outside functions')
 
 
-def check(path):
+def check(path, said):
     crate, label = path.parent.parent.name, path.stem
     text = path.read_text()
     yield from faults_of_text(text)
-    tried = TRIED / crate / label
-    if not (tried / '.log').is_file() or (TRIED / crate / f'{label}.res').read_text().strip() != 'refused':
-        yield 'it was not tried, or not refused'
-        return
-    fact = ''.join(line[6:].strip() for line in text.splitlines() if line.startswith('fact: '))
-    yield from faults_of_log((tried / '.log').read_text(), crate, fact)
-    if re.search(r'^file: src/', text, re.M):
-        changed = other_shapes(crate, tried)
-        if changed:
-            yield f'it changes the steps of {", ".join(changed)}, and not only what they are done with'
+    told = said.get((crate, label), [])
+    if not told:
+        yield 'it was not tried'
+    for one in sorted(set(told)):
+        yield from faults_of_said(one, crate, fact_of(text))
+    changed = list(other_shapes(crate, text))
+    if changed:
+        yield f'it changes the steps of {", ".join(changed)}, and not only what they are done with'
 
 
-def main():
+def main(log):
+    said = said_of(pathlib.Path(log).read_text(errors='replace'))
     edits = sorted((ROOT / 'crates').glob('*/must-fail/*.edit'))
     bad = 0
-    # Code in steps is nested deeply.
-    sys.setrecursionlimit(100000)
-    threading.stack_size(1 << 28)
-    with concurrent.futures.ThreadPoolExecutor(os.cpu_count()) as pool:
-        for path, faults in zip(edits, pool.map(lambda path: list(check(path)), edits)):
-            for fault in faults:
-                bad += 1
-                print(f'{path.parent.parent.name}/{path.stem}: {fault}')
-    logs = len(list(TRIED.glob('*/*/.log')))
-    if logs != len(edits):
+    for path in edits:
+        for fault in check(path, said):
+            bad += 1
+            print(f'{path.parent.parent.name}/{path.stem}: {fault}')
+    if len(said) != len(edits):
         bad += 1
-        print(f'{len(edits)} edits, and {logs} logs')
+        print(f'{len(edits)} edits, and {len(said)} of which something is said')
     print(f'{len(edits)} edits, {bad} faults')
     return 1 if bad or not edits else 0
 
 
 if __name__ == '__main__':
-    sys.exit(main())
+    if len(sys.argv) != 2:
+        sys.exit(__doc__)
+    sys.exit(main(sys.argv[1]))
