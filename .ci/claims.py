@@ -4,7 +4,7 @@
 .ci/required.txt lists, one to a line:
 
     crate NAME EDITS                       a crate, and how many edits attack it at least
-    theorem CRATE NAME STATEMENT           a law `NAME : STATEMENT` of the crate's specs/laws
+    theorem CRATE NAME STATEMENT           a law `NAME : STATEMENT` of the crate's proofs/Laws
     promise CRATE FUNCTION NAME NAME ..    a public function, and definitions or labels that its ensures clauses name
 """
 import pathlib
@@ -31,7 +31,7 @@ def edits():
 def laws(crate):
     """The laws of a crate, by name, with the text of what each states as far as the first line has it."""
     found = {}
-    for path in (ROOT / 'crates' / crate / 'specs' / 'laws').glob('**/*.antt'):
+    for path in (ROOT / 'crates' / crate / 'proofs' / 'Laws').glob('**/*.antt'):
         found.update(re.findall(r'^\s*pub ([^\s:()]+) : (.*)$', bare(path.read_text(), '--'), re.M))
     return found
 
@@ -84,7 +84,7 @@ def required():
             yield f'no {kind} is required'
         for name in sorted(names - cited):
             yield f'{CLAIMS.name} does not cite the {kind} {name}'
-    for path in sorted(ROOT.glob('crates/*/specs/laws/**/*.antt')):
+    for path in sorted(ROOT.glob('crates/*/proofs/Laws/**/*.antt')):
         # A statement with a name of its own is a theorem: its law is on the list.
         for name, statement in re.findall(r'^pub ([^\s:()]+) : ([A-Z]\w*)$', path.read_text(), re.M):
             if name not in known['theorem']:
@@ -94,7 +94,7 @@ def required():
 def names():
     """Every name that is declared somewhere: definitions, fields, laws, functions, labels, crates."""
     found = set(WORDS) | listed_crates()
-    for path in ROOT.glob('crates/*/specs/**/*.antt'):
+    for path in [*ROOT.glob('crates/*/specs/**/*.antt'), *ROOT.glob('crates/*/proofs/Laws/**/*.antt')]:
         text = bare(path.read_text(), '--')
         found |= set(re.findall(r'^\s*(?:abbrev |unfoldable )?(?:pub )?([^\s:(){}]+) (?::|\()', text, re.M))
         found |= set(re.findall(r'\brecord (\w+)', text))
@@ -119,12 +119,13 @@ def cited():
     crates, known, records = listed_crates(), names(), fields()
     tokens = set(re.findall(r'`([^`]+)`', CLAIMS.read_text()))
     for token in sorted(tokens):
-        place = re.fullmatch(r'(\w+)/((?:laws/)?\w+)', token)
+        place = re.fullmatch(r'(\w+)/(Laws/)?(\w+)', token)
         if place and place[1] in crates:
-            if not place[2].split('/')[-1][0].isupper():
+            folder = ROOT / 'crates' / place[1] / ('proofs/Laws' if place[2] else 'specs')
+            if not place[3][0].isupper():
                 if token not in edits():
                     yield f'no edit {token}'
-            elif not (ROOT / 'crates' / place[1] / 'specs' / f'{place[2]}.antt').is_file():
+            elif not (folder / f'{place[3]}.antt').is_file():
                 yield f'no file of definitions or laws {token}'
         elif '/' in token:
             if not re.search(r'NAME|FILE', token) and not (ROOT / token).exists():

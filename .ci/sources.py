@@ -8,9 +8,13 @@ import re
 import sys
 
 ROOT = pathlib.Path(__file__).resolve().parent.parent
-HEAD = re.compile(r'\bpub\s+(?:extern\s+"C"\s+)?fn\s+(\w+)\s*(?:<[^>]*>)?\s*\(')
-CLAUSE = re.compile(r'\s*(requires|ensures|ghost|decreases)\b\s*(\w*)\s*\{')
-PROOF = re.compile(r'(?<![\w-])(refl|rw|simp|omega|search|cc|absurd|subst)(?![\w-])')
+HEAD = re.compile(r'\bpub\s+(?:unsafe\s+)?(?:extern\s+"C"\s+)?fn\s+(\w+)\s*(?:<[^>]*>)?\s*\(')
+CLAUSE = re.compile(r'\s*(requires|ensures|ghost|decreases)\b\*?\s*(\w*)\s*:?\s*\{')
+# A clause that says nothing: truth, or that something is itself.
+EMPTY = re.compile(r'\s*(?:λ\s*\w+\.\s*)?(?:⌜\s*)?(?:⊤ₛ?|(\S+) ≡ \1)\s*(?:⌝\s*)?')
+# The laws, and what only contracts of private functions cite: a crate's proofs, and its specs below Laws.
+LAWS = re.compile(r'ghost use Rattle\.(?!std\b)\w+\.(?:proofs|specs\.Laws)\b[^;{]*(?:\{([^}]*)\}|\.([^;{.\s]+))\s*;')
+PROOF = re.compile(r'(?<![\w-])(refl|rw(?:⁻¹)?|grw|simp|omega|search|grind|cc|hlevel|ground|assumption|absurd|subst)(?![\w-])')
 # A power of two is the weight of a bit.
 FACTOR = re.compile(r'[*/] *(2|256|512)(?![0-9_]| *\^)|(?<![0-9_.])(2|256|512) *[*]')
 # Whether a number is odd is no division.
@@ -24,6 +28,7 @@ def sources():
 
 
 def specs():
+    """The definitions and statements that a reader has to believe."""
     return sorted(ROOT.glob('crates/*/specs/*.antt'))
 
 
@@ -84,11 +89,11 @@ def promises():
         count += 1
         if any(kind == 'requires' for kind, _ in f.clauses):
             yield f'{path}: {f.name}: a requires'
-        said = [text for text in f.ensures() if '⌜' in text and not re.fullmatch(r'\s*λ\s*\w+\.\s*⌜\s*⊤\s*⌝\s*', text)]
+        said = [text for text in f.ensures() if text.strip() and not EMPTY.fullmatch(text)]
         if not said:
             yield f'{path}: {f.name}: no ensures'
         for name in f.lent():
-            if not any(re.search(rf'(?<!\w)«?{name}»? \.exit(?!\w)', text) for text in said):
+            if not any(re.search(rf"(?<![\w.])«?{name}»?\.new(?![\w'])", text) for text in said):
                 yield f'{path}: {f.name}: no ensures says what {name} holds afterwards'
         if f.answers and not any(answer_is_named(text) for text in said):
             yield f'{path}: {f.name}: no ensures speaks of the answer'
@@ -97,8 +102,7 @@ def promises():
 
 
 def answer_is_named(text):
-    found = re.match(r'\s*λ\s*(\w+)\.(.*)', text, re.S)
-    return bool(found) and re.search(rf'(?<![\w.]){found[1]}(?![\w′])', found[2]) is not None
+    return re.search(r"(?<![\w.])result(?![\w'])", text) is not None
 
 
 def apart():
@@ -106,14 +110,16 @@ def apart():
     for path in specs():
         for number, line in enumerate(bare(path.read_text(), '--').splitlines(), 1):
             if PROOF.search(line):
-                yield f'{path.relative_to(ROOT)}:{number}: a proof outside specs/laws'
+                yield f'{path.relative_to(ROOT)}:{number}: a proof among definitions'
     if not specs():
         yield 'no definitions'
     for path, f in public_functions():
-        uses = re.findall(r'ghost use [^;{]*\.laws\.[^;{]*\{([^}]*)\}', bare((ROOT / path).read_text(), '//'))
-        laws = {name.strip() for names in uses for name in names.split(',')}
+        uses = LAWS.findall(bare((ROOT / path).read_text(), '//'))
+        laws = {name.split(' as ')[-1].strip() for names, one in uses for name in (names or one).split(',')}
         for text in f.ensures():
-            for name in sorted(laws & set(re.findall(r'[\w·′-]+', text))):
+            for name in sorted(laws & set(re.findall(r"[\w'-]+", text))):
+                yield f'{path}: {f.name}: a promise cites {name} from laws'
+            for name in re.findall(r'(?<![\w.])Rattle\.(?!std\b)\w+\.(?:proofs|specs\.Laws)\b[^\s(){}]*', text):
                 yield f'{path}: {f.name}: a promise cites {name} from laws'
 
 
