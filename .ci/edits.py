@@ -5,7 +5,8 @@
 
 An edit is a wrong program or a wrong definition. It shows something only where the prover refuses it because a fact no longer
 holds. One that merely made a proof unfit for the code, because a step was added, dropped or renamed, would be refused however
-right the program was.
+right the program was. A goal has its name by the conditions that lead to it: an edit of a condition whose goal is answered by
+hand renames it in the answers too, by pairs of lines for `proofs/FUNCTION/Answers.antt` that do nothing else.
 
 An edit's file has a comment, a comment `# fact: PLACE NAME`, and then `file:`, `old:` and `new:` lines. PLACE is a function, as
 `module/function`, or a file of laws, as `proofs/Laws/Law.antt`; NAME is the goal or the law that is refused first. What is said
@@ -33,6 +34,8 @@ CLAUSE = re.compile(r'\b(?:requires|ensures|ghost|decreases)\b\*?\s*\w*\s*\{')
 TOKEN = re.compile(r"\d\w*(?:\.\d\w*)?|'\w+|[^\W\d]\w*|::|->|=>|\.\.=?|<<=?|>>=?|[-+*/%&|^=!<>]=|&&|\|\||\S")
 KEYWORDS = set('as break const continue crate else enum extern fn for if in let loop match mod move mut pub return static struct unsafe use while'.split())
 COMPARISONS = {'<', '<=', '>', '>=', '==', '!='}
+# The same in the names of goals, of operands and numbers.
+NAMED = {'lt', 'le', 'gt', 'ge', 'eq', 'ne', 'not'}
 
 
 def faults_of_text(text):
@@ -238,23 +241,64 @@ def shapes(text):
     return found
 
 
-def edited(crate, text):
-    """The source files that an edit changes, each as it is and as the edit makes it; what cannot be applied is said by `rt`."""
-    path, old, files = '', None, {}
+def pairs(text):
+    """What an edit puts for what, and in which file."""
+    path, old = '', None
     for line in text.splitlines():
         if line.startswith('file: '):
             path = line[6:].strip()
         elif line.startswith('old: '):
             old = line[5:]
-        elif line.startswith('new:') and old is not None and path.startswith('src/'):
+        elif line.startswith('new:') and old is not None:
+            yield path, old, line[4:].removeprefix(' ')
+
+
+def edited(crate, text, part):
+    """The files of a part that an edit changes, each as it is and as the edit makes it; what cannot be applied is said by `rt`."""
+    files = {}
+    for path, old, new in pairs(text):
+        if path.startswith(part):
             before = files.setdefault(path, [(ROOT / 'crates' / crate / path).read_text()] * 2)
-            files[path] = [before[0], before[1].replace(old, line[4:].removeprefix(' '))]
+            files[path] = [before[0], before[1].replace(old, new)]
     return files
+
+
+def goal_words(name):
+    return set(re.findall(r'[^\W\d]+|\d+', name))
+
+
+def renamed(crate, place, name, text):
+    """The goal that a function's answers have where the edit's condition gives it another name, that nothing answers."""
+    path = f'proofs/{place}/Answers.antt'
+    if not (ROOT / 'crates' / crate / path).is_file():
+        return None
+    answers = edited(crate, text, path).get(path, [(ROOT / 'crates' / crate / path).read_text()])[-1]
+    before, now = (set().union(*[goal_words(pair[i]) for pair in pairs(text) if pair[0].startswith('src/')], NAMED) for i in (1, 2))
+    parted = lambda goal: re.fullmatch(r'(.*-(?:then|else|arm)-)(.*)', goal)
+    found = parted(name.removesuffix('..'))
+    for answer in re.findall(r'^pub ([^\s:]+) :', answers, re.M):
+        other = parted(answer)
+        if found and other and answer != name and other[1] == found[1] and goal_words(other[2]) <= before and goal_words(found[2]) <= now:
+            return answer
+    return None
+
+
+def faults_of_proofs(text):
+    """What an edit changes in proofs beside the names of goals and cases, each to one other name."""
+    names = {}
+    for path, old, new in pairs(text):
+        if path.startswith('proofs/') and PROOFS.fullmatch(path):
+            was, now = (re.findall(r"[\w'-]+|\S", line) for line in (old, new))
+            named = lambda word: '-' in word and word[0].isalpha()
+            if len(was) != len(now) or any(a != b and not (named(a) and named(b) and names.setdefault(a, b) == b) for a, b in zip(was, now)):
+                yield f'it changes a proof and not only its names: {old.strip()[:80]}'
+        elif path.startswith('proofs/'):
+            yield f'it changes {path}: a law is what refuses an edit'
 
 
 def other_shapes(crate, text):
     """The functions whose shape an edit changes."""
-    for path, (before, now) in sorted(edited(crate, text).items()):
+    for path, (before, now) in sorted(edited(crate, text, 'src/').items()):
         before, now = shapes(before), shapes(now)
         for name in sorted(before.keys() | now.keys()):
             if before.get(name) != now.get(name):
@@ -265,11 +309,16 @@ def check(path, said):
     crate, label = path.parent.parent.name, path.stem
     text = path.read_text()
     yield from faults_of_text(text)
+    yield from faults_of_proofs(text)
     told = said.get((crate, label), [])
     if not told:
         yield 'it was not tried'
     for one in sorted(set(told)):
         yield from faults_of_said(one, crate, fact_of(text))
+        first = first_refusal(one, crate)
+        answer = first and first[2].startswith('note: ') and renamed(crate, *first[:2], text)
+        if answer:
+            yield f'`{first[1]}` is what proofs/{first[0]}/Answers.antt answers as `{answer}`: rename it there too'
     changed = list(other_shapes(crate, text))
     if changed:
         yield f'it changes the steps of {", ".join(changed)}, and not only what they are done with'
