@@ -5,7 +5,7 @@
 
     crate NAME EDITS                       a crate, and how many edits attack it at least
     theorem CRATE NAME STATEMENT           a law `NAME : STATEMENT` of the crate's proofs/Laws
-    promise CRATE FUNCTION NAME NAME ..    a public function, and definitions or labels that its ensures clauses name
+    promise CRATE FUNCTION NAME NAME ..    a public function, and definitions that its ensures clauses name, or labels of them
 """
 import pathlib
 import re
@@ -36,14 +36,22 @@ def laws(crate):
     return found
 
 
+def definitions():
+    """What is defined at the top of a file of definitions."""
+    return {name for path in ROOT.glob('crates/*/specs/*.antt')
+            for name in re.findall(r'^(?:abbrev |unfoldable |opaque )?pub (?:record |data )?([^\s:(){}]+)', bare(path.read_text(), '--'), re.M)}
+
+
 def promised():
-    """For each public function, by crate and name, the text of its ensures clauses."""
+    """For each public function, by crate and name, the text of its ensures clauses, and their labels. A label that is spelled as
+    a definition is no word for it."""
+    defined = definitions()
     found = {}
     for path, f in public_functions():
         text = (ROOT / path).read_text()
         at = re.search(rf'\bfn {f.name}\b', text).start()
         labels = re.findall(r'\bensures (\w+) \{', text[at:].split('\n{', 1)[0])
-        found[path.parts[1], f.name] = ' '.join(f.ensures() + labels)
+        found[path.parts[1], f.name] = ' '.join(f.ensures() + [label for label in labels if label not in defined])
     return found
 
 

@@ -43,22 +43,29 @@ def drop_edit(tree):
 
 
 PLAIN = 'pub fn spoiled(row: &mut [u16], v: u16) -> u16\n'
-KEEPS = '    ensures { λ r. ⌜ r ≡ v ⌝ }\n'
-LEAVES = '    ensures { λ r. ⌜ now (row .exit) ≡ now (row .entry) ⌝ }\n'
+KEEPS = '    ensures value { result ≡ v }\n'
+LEAVES = '    ensures row_after { row.new ≡ row.old }\n'
 BODY = '{\n    v\n}\n'
 
 # A name, the check that must complain, what it must say, and how the tree is spoiled.
 CASES = [
     ('no ensures', 'promises', 'no ensures', lambda t: add_function(t, PLAIN + BODY)),
-    ('an ensures in a comment', 'promises', 'no ensures', lambda t: add_function(t, PLAIN + '    // ensures { λ r. ⌜ r ≡ v ⌝ }\n' + BODY)),
-    ('an ensures in a comment of more lines', 'promises', 'no ensures', lambda t: add_function(t, PLAIN + '    /* of the answer:\n    ensures { λ r. ⌜ r ≡ v ⌝ } */\n' + BODY)),
-    ('an ensures that says nothing', 'promises', 'no ensures', lambda t: add_function(t, PLAIN + '    ensures { λ r. ⊤ₛ }\n' + BODY)),
+    ('an ensures in a comment', 'promises', 'no ensures', lambda t: add_function(t, PLAIN + '    // ensures { result ≡ v }\n' + BODY)),
+    ('an ensures in a comment of more lines', 'promises', 'no ensures', lambda t: add_function(t, PLAIN + '    /* of the answer:\n    ensures { result ≡ v } */\n' + BODY)),
+    ('an ensures that says nothing', 'promises', 'no ensures', lambda t: add_function(t, PLAIN + '    ensures { ⊤ }\n' + BODY)),
+    ('an ensures of memory that says nothing', 'promises', 'no ensures', lambda t: add_function(t, PLAIN + '    ensures* { ⊤ₛ }\n' + BODY)),
+    ('an ensures that anything meets', 'promises', 'no ensures', lambda t: add_function(t, PLAIN + '    ensures value { result ≡ result }\n' + BODY)),
     ('a buffer without a word', 'promises', 'what row holds', lambda t: add_function(t, PLAIN + KEEPS + BODY)),
+    ('a buffer of which only the old is said', 'promises', 'what row holds', lambda t: add_function(t, PLAIN + KEEPS.replace('≡ v', '≡ length row.old') + BODY)),
     ('an answer without a word', 'promises', 'speaks of the answer', lambda t: add_function(t, PLAIN + LEAVES + BODY)),
-    ('a requires', 'promises', 'a requires', lambda t: add_function(t, PLAIN + '    requires { ⌜ v ≡ v ⌝ }\n' + KEEPS + LEAVES + BODY)),
-    ('an exported function', 'promises', 'what row holds', lambda t: add_function(t, PLAIN.replace('pub fn', '#[no_mangle]\npub extern "C" fn') + KEEPS + BODY)),
-    ('a proof among definitions', 'apart', 'a proof outside', lambda t: put(t / 'crates/layout/specs/Chain.antt', 'endOf r = start r (r .nol)', 'endOf r = rw start r (r .nol)')),
-    ('a promise that cites a law', 'apart', 'cites fill-law', lambda t: (add_function(t, 'ghost use Rattle·slices·specs.specs.laws.Painting.{fill-law};\n' + PLAIN + KEEPS.replace('≡ v', '≡ fill-law v') + LEAVES + BODY))),
+    ('a requires', 'promises', 'a requires', lambda t: add_function(t, PLAIN + '    requires { v ≡ v }\n' + KEEPS + LEAVES + BODY)),
+    ('an answer that only a name is like', 'promises', 'speaks of the answer', lambda t: add_function(t, PLAIN + LEAVES.replace('≡ row.old', '≡ result_of row.old') + BODY)),
+    ('an exported function', 'promises', 'what row holds', lambda t: add_function(t, PLAIN.replace('pub fn', '#[unsafe(no_mangle)]\npub extern "C" fn') + KEEPS + BODY)),
+    ('an exported function that is unsafe', 'promises', 'what row holds', lambda t: add_function(t, PLAIN.replace('pub fn', 'pub unsafe extern "C" fn') + KEEPS + BODY)),
+    ('a proof among definitions', 'apart', 'a proof among definitions', lambda t: put(t / 'crates/layout/specs/Chain.antt', 'end_of r = start r r.nol', 'end_of r = rw start r r.nol')),
+    ('a promise that cites a law', 'apart', 'cites fill_law', lambda t: add_function(t, 'ghost use Rattle.slices.proofs.Laws.Painting.{fill_law};\n' + PLAIN + KEEPS.replace('≡ v', '≡ fill_law v') + LEAVES + BODY)),
+    ('a promise that cites a law by another name', 'apart', 'cites painted', lambda t: add_function(t, 'ghost use Rattle.slices.proofs.Laws.Painting.{fill_law as painted};\n' + PLAIN + KEEPS.replace('≡ v', '≡ painted v') + LEAVES + BODY)),
+    ('a promise that cites a working definition', 'apart', 'cites row_pixel', lambda t: add_function(t, 'ghost use Rattle.moves.specs.Laws.Picture.{row_pixel};\n' + PLAIN + KEEPS.replace('≡ v', '≡ row_pixel v') + LEAVES + BODY)),
     ('a stray factor', 'factors', '512 * k', lambda t: add_function(t, 'fn stray(k: usize) -> usize {\n    512 * k\n}\n')),
     ('a run divided', 'undivided', 'n / 32767', lambda t: put(t / 'crates/encode_body/src/run_body.rt', 'let mut left = n;', 'let mut left = n / 32767;')),
     ('a run divided in the definition', 'undivided', 'n % 32767', lambda t: put(t / 'crates/cutting/specs/Pieces.antt', 'cond (leb n 32767) (n ∷ [])', 'cond (leb n 32767) (n % 32767 ∷ [])')),
@@ -66,11 +73,11 @@ CASES = [
     ('a crate without edits', 'attacked', 'fields: no must-fail', lambda t: shutil.rmtree(t / 'crates/fields/must-fail')),
     ('an exported function without edits', 'attacked', 'layout: no must-fail', lambda t: (
         shutil.rmtree(t / 'crates/layout/must-fail'),
-        (t / 'crates/layout/src/lib.rt').open('a').write('#[no_mangle]\npub extern "C" fn spoiled(v: u16) -> u16 {\n    v\n}\n'))),
-    ('a law deleted', 'claims', 'no law `isolated : Demand3`', lambda t: put(t / 'crates/isolation/specs/laws/Law.antt', 'pub isolated : Demand3', 'isolates : Demand3')),
-    ('a law of another statement', 'claims', 'no law `covered : AllCovered`', lambda t: put(t / 'crates/isolation/specs/laws/Covered.antt', 'pub covered : AllCovered', 'pub covered : ChangedAgain')),
-    ('a theorem that nobody lists', 'claims', 'the theorem other : Demand3', lambda t: (t / 'crates/isolation/specs/laws/Law.antt').open('a').write('\npub other : Demand3\nother = isolated\n')),
-    ('a promise weakened', 'claims', 'does not name marksAfter', lambda t: put(t / 'crates/decode_raster/src/lib.rt', '≡ marksAfter (now', '≡ pixelsAfter (now')),
+        (t / 'crates/layout/src/lib.rt').open('a').write('#[unsafe(no_mangle)]\npub extern "C" fn spoiled(v: u16) -> u16 {\n    v\n}\n'))),
+    ('a law deleted', 'claims', 'no law `isolated : Demand3`', lambda t: put(t / 'crates/isolation/proofs/Laws/Law.antt', 'pub isolated : Demand3', 'isolates : Demand3')),
+    ('a law of another statement', 'claims', 'no law `covered : AllCovered`', lambda t: put(t / 'crates/isolation/proofs/Laws/Covered.antt', 'pub covered : AllCovered', 'pub covered : ChangedAgain')),
+    ('a theorem that nobody lists', 'claims', 'the theorem other : Demand3', lambda t: (t / 'crates/isolation/proofs/Laws/Law.antt').open('a').write('\npub other : Demand3\nother = isolated\n')),
+    ('a promise weakened', 'claims', 'does not name marks_after', lambda t: put(t / 'crates/decode_raster/src/lib.rt', '≡ marks_after file.now', '≡ pixels_after file.now')),
     ('a label dropped', 'claims', 'does not name demand_3', lambda t: put(t / 'crates/two_readings/src/lib.rt', 'ensures demand_3 {', 'ensures {')),
     ('a clause of demand 3 dropped', 'claims', 'OneReading has no clause good', lambda t: remove_line(t / 'crates/isolation/specs/Statement.antt', '  pub good :')),
     ('a clause of the bytes written dropped', 'claims', 'FieldsInPlace has no clause matrix', lambda t: remove_line(t / 'crates/encode_header/specs/Positions.antt', '  pub matrix :')),
@@ -78,59 +85,134 @@ CASES = [
     ('an edit deleted', 'claims', 'no edit isolation/nothing_may_change', lambda t: (t / 'crates/isolation/must-fail/nothing_may_change.edit').unlink()),
     ('an edit deleted with its mention', 'claims', 'edits, and', drop_edit),
     ('an edit that the index lacks', 'claims', 'the edit isolation/nothing_may_change is not', lambda t: put(t / 'docs/CLAIMS.md', '`isolation/nothing_may_change`', '')),
+    ('a file of laws that is nowhere', 'claims', 'no file of definitions or laws', lambda t: put(t / 'docs/CLAIMS.md', '`isolation/Laws/Law`', '`isolation/Laws/Lore`')),
     ('a name that is nowhere', 'claims', 'nothing is called ChangedInHeads', lambda t: put(t / 'docs/CLAIMS.md', '`ChangedInBodies`', '`ChangedInHeads`')),
 ]
 
-REFUSED = '/t/must-fail/units/label/proofs/u16_at/Proof.antt:10:13: error: `returns`: `omega`: the goal does not follow\n'
-RESTS = '/t/must-fail/units/label/proofs/u16_at/Proof.antt:9:1: error: `spec`: `returns` was not admitted (it has holes)\n'
-UNFIT = '/t/must-fail/units/label/proofs/u16_at/Proof.antt:10:13: error: `returns`: `tie` has no `Need-returns-2` that can be named from here\n'
-SHIFTED = '/t/must-fail/units/label/proofs/u16_at/Proof.antt:10:13: error: `returns`: expected type `tie.Need-add`, but this has type `tie.Need-returns`\n'
-BINDERS = '/t/must-fail/units/label/proofs/u16_at/Proof.antt:69:10: error: `u16-at-spec`: this λ has 2 binders, but its type has room for only 1\n'
-APPLIED = '/t/must-fail/units/label/proofs/u16_at/Proof.antt:10:57: error: `returns`: this is applied to an argument but has type `_<_ a b`\n'
-DEFINED = '/t/must-fail/units/label/specs/Counts.antt:10:13: error: `returns`: for a numeral, use it as an argument\n'
-UNPROVED = 'fn units::little_endian::u16_at: no proof: expected `u16-at-spec` in F; `search` does not close `returns`\n'
+SAYS = 'refused, as it must be: '
+PROOF = 'proofs/little_endian/u16_at/Answers.antt'
+REFUSED = f'{SAYS}./{PROOF}:10:13: error: `returns`: `omega`: the goal does not follow'
+LAW = f'{SAYS}./proofs/Laws/Words.antt:13:25: error: `length-words`: computed as far as they go, the two types are `Path ℕ 0 1` (expected) and'
+UNFIT = f'{SAYS}./{PROOF}:10:13: error: `returns`: record `Rattle.units.proofs.little_endian.u16_at.Lts.After` has no field `if-at-s`'
+SHIFTED = f'{SAYS}./{PROOF}:10:13: error: `returns`: expected type `goal.returns-then-at-s`, but this has type `goal.returns`'
+BINDERS = f'{SAYS}./{PROOF}:69:10: error: `returns`: this λ has 2 binders, but its type has room for only 1'
+APPLIED = f'{SAYS}./{PROOF}:10:57: error: `returns`: this is applied to an argument but has type `a < b`'
+DEFINED = f'{SAYS}./specs/Counts.antt:10:13: error: `returns`: for a numeral, use it as an argument'
+CLAUSED = f'{SAYS}./src/lib.rt:31:20: error: `returns`: for a numeral, use it as an argument'
+NAMES = 'refused, as it must be (only because a proof file names what the edit took away, so this says little of the contract: change a value and keep the names): x'
+LIMITED = 'refused, as it must be (only by a limit of the prover, which gave no verdict, so this says less of the contract: choose a change that it refuses sooner): x'
 
-# A log, the fact that the edit names, and what is complained of; nothing where the log is as it should be.
+
+def unanswered(path, text, said):
+    """A goal of the function in whose code a text stands, that nothing answers: as it is said, with the line."""
+    lines = (ROOT / 'crates' / 'units' / path).read_text().splitlines()
+    line = next(number for number, line in enumerate(lines, 1) if text in line)
+    return f'{SAYS}note: {path}:{line}:11: it is not proved that {said}'[:edits.CUT + len(SAYS)]
+
+
+PRODUCT = unanswered('src/lib.rt', 'Bytes(2 * n.0)', "the product fits its type (at an index, the index times an element's size) (`overflow_mul-result`); the facts known there allow")
+RETURNS = unanswered('src/word_slice.rt', 'pub fn put_word', 'what the function ensures holds when it returns (`returns-then-at-out`)')
+CUT_OFF = unanswered('src/word_slice.rt', 'pub fn put_word', f"what the function ensures holds when it returns (`returns-then-{'at-out-' * 20}`); the facts")
+
+# What is said of an edit, the fact that it names, and what is complained of; nothing where it is as it should be.
 LOGS = [
-    ('a fact', RESTS + REFUSED, 'u16_at returns', ''),
-    ('a fact that is searched for', UNPROVED, 'little_endian/u16_at returns', ''),
-    ('another fact', REFUSED, 'u16_at loop-again', 'refused at'),
-    ('no refusal', 'logic=proved\n', 'u16_at returns', 'no refusal'),
-    ('a proof that names other needs', UNFIT, 'u16_at returns', 'does not fit'),
-    ('a proof that is shifted', SHIFTED, 'u16_at returns', 'does not fit'),
-    ('a proof with other parts', BINDERS, 'u16_at u16-at-spec', 'does not fit'),
-    ('a proof that takes a fact of another kind', APPLIED, 'u16_at returns', 'does not fit'),
+    ('a fact', REFUSED, 'little_endian/u16_at returns', ''),
+    ('a law', LAW, 'proofs/Laws/Words.antt length-words', ''),
+    ('a goal that nothing answers', PRODUCT, 'words_to_bytes overflow_mul-result', ''),
+    ('a goal of a function in a module', RETURNS, 'word_slice/put_word returns-then-at-out', ''),
+    ('a goal whose name is cut off', CUT_OFF, 'word_slice/put_word ' + CUT_OFF.split('`')[1] + '..', ''),
+    ('another fact', REFUSED, 'little_endian/u16_at loop-i-preserved', 'refused at'),
+    ('the fact of another function', REFUSED, 'little_endian/u32_at returns', 'refused at'),
+    ('a goal of another function', PRODUCT, 'words_to_blocks overflow_mul-result', 'refused at'),
+    ('another law', LAW, 'proofs/Laws/Words.antt words-length', 'refused at'),
+    ('no refusal', 'NOT REFUSED: the crate is still proved with this edit', 'u16_at returns', 'not refused'),
+    ('no verdict', 'NOT TRIED: its check was killed', 'u16_at returns', 'not refused'),
+    ('an edit that cannot be applied', "BAD EDIT: an 'old:' text is in src/lib.rt 0 times, and not once", 'u16_at returns', 'not refused'),
+    ('a refusal that says nothing', SAYS.rstrip(': '), 'u16_at returns', 'no fact'),
+    ('a refusal by a name that is gone', NAMES, 'u16_at returns', 'only because'),
+    ('a refusal by a limit', LIMITED, 'u16_at returns', 'only by a limit'),
+    ('a proof that names other goals', UNFIT, 'little_endian/u16_at returns', 'does not fit'),
+    ('a proof that is shifted', SHIFTED, 'little_endian/u16_at returns', 'does not fit'),
+    ('a proof with other parts', BINDERS, 'little_endian/u16_at returns', 'does not fit'),
+    ('a proof that takes a fact of another kind', APPLIED, 'little_endian/u16_at returns', 'does not fit'),
     ('a definition that is refused', DEFINED, 'specs/Counts.antt returns', 'itself is refused'),
+    ('a clause that is refused', CLAUSED, 'src/lib.rt returns', 'itself is refused'),
 ]
 
 TEXTS = [
-    ('an edit as it should be', '# wrong\nfact: f returns\nfile: src/lib.rt\nold: a\nnew: b\n', ''),
-    ('an edit of two lines', '# wrong\nfact: f returns\nfile: src/lib.rt\nold: a\n  b\nnew: c\n', 'nothing reads'),
+    ('an edit as it should be', '# wrong\n# fact: f returns\nfile: src/lib.rt\nold: a\nnew: b\n', ''),
+    ('an edit of two lines', '# wrong\n# fact: f returns\nfile: src/lib.rt\nold: a\n  b\nnew: c\n', 'nothing reads'),
     ('an edit without a fact', '# wrong\nfile: src/lib.rt\nold: a\nnew: b\n', 'fact'),
+    ('an edit that says nothing but its fact', '# fact: f returns\nfile: src/lib.rt\nold: a\nnew: b\n', 'no comment'),
+    ('a goal that is renamed', '# wrong\n# fact: f returns\nfile: proofs/f/Answers.antt\nold: if-k-eq1 c = g c.if-k-eq1.true\nnew: if-k-eq2 c = g c.if-k-eq2.true\n', ''),
+    ('a goal that is renamed twice', '# wrong\n# fact: f returns\nfile: proofs/f/Answers.antt\nold: if-k-eq1 c = g c.if-k-eq1.true\nnew: if-k-eq2 c = g c.if-k-eq3.true\n', 'changes a proof'),
+    ('a proof that is changed', '# wrong\n# fact: f returns\nfile: proofs/f/Answers.antt\nold: returns c = refl\nnew: returns c = search\n', 'changes a proof'),
+    ('a proof that is shortened', '# wrong\n# fact: f returns\nfile: proofs/f/Answers.antt\nold: returns c = sym refl\nnew: returns c = refl\n', 'changes a proof'),
+    ('a law that is changed', '# wrong\n# fact: f returns\nfile: proofs/Laws/Law.antt\nold: f-1 = g\nnew: f-2 = g\n', 'a law is what'),
 ]
 
-# Code in steps, and another: whether the shape is the same.
-STEPS = '(if (op2 (lt unsigned) (copy (place 1 lnil)) (int 64 5)) (call f (copy (place 2 lnil))) (arm (lcons 9 lnil) skip))'
+# A function, and another: whether the shape is the same.
+STEPS = 'fn f(p: usize, s: &[u8]) -> Bytes { let n = g(p, s[0]); if p < 5 { return Bytes(h(n)); } match p { 2 | 3 => f(n, s), _ => Bytes(n as usize) } }'
 SHAPES = [
-    ('another operand', STEPS.replace('place 1', 'place 3'), True),
-    ('another constant', STEPS.replace('64 5', '64 6'), True),
-    ('another arm', STEPS.replace('lcons 9', 'lcons 8'), True),
-    ('another comparison', STEPS.replace('lt', 'le'), True),
-    ('another kind of comparison', STEPS.replace('(lt unsigned)', 'ne'), True),
-    ('another call', STEPS.replace('call f', 'call g'), False),
-    ('a step more', STEPS.replace('(int 64 5)', '(op2 (add unsigned) (int 64 5) (int 64 1))'), False),
-    ('a step less', STEPS.replace('(call f (copy (place 2 lnil)))', 'skip'), False),
+    ('another operand', STEPS.replace('h(n)', 'h(p)'), True),
+    ('a part of what is read', STEPS.replace('h(n)', 'h(n.0)'), True),
+    ('another constant', STEPS.replace('p < 5', 'p < 6'), True),
+    ('another arm', STEPS.replace('2 | 3', '4'), True),
+    ('another comparison', STEPS.replace('p < 5', '5 <= p'), True),
+    ('another kind of comparison', STEPS.replace('p < 5', 'p != 5'), True),
+    ('a comment', STEPS.replace('if p', '/* n < 5 { */ if p') + '// end', True),
+    ('operands exchanged with what is made', STEPS.replace('g(p, s[0])', 'g(s[0], p)'), True),
+    ('another clause', STEPS.replace(' {', ' ensures { result.0 ≡ f p } {', 1), True),
+    ('another call', STEPS.replace('h(n)', 'g(n)'), False),
+    ('another loop', STEPS.replace('if p < 5', 'while p < 5'), False),
+    ('another width', STEPS.replace('n as usize', 'n as u8'), False),
+    ('another operator', STEPS.replace('s[0]', '0 + p'), False),
+    ('a step more', STEPS.replace('p < 5', 'p < 5 + 1'), False),
+    ('a step less', STEPS.replace('h(n)', 'n'), False),
+    ('a statement more', STEPS.replace('if p', 'n += 1; if p'), False),
+    ('steps in another order', STEPS.replace('g(p, s[0])', 'g(h(p), k(s))').replace('h(n)', 'n'), False),
 ]
+
+# An edit of a condition whose goal is answered by hand: the answer that lacks its name, or none where the edit renames it too.
+CONDITION = '# wrong\n# fact: is_data_type returns-then-dtc-eq0\nfile: src/lib.rt\nold: if dtc == 1 {\nnew: if dtc == 0 {\n'
+RENAMED = CONDITION + 'file: proofs/is_data_type/Answers.antt\nold: pub returns-then-dtc-eq1 : goal.returns-then-dtc-eq1\nnew: pub returns-then-dtc-eq0 : goal.returns-then-dtc-eq0\n'
+
+# The last line but one of `rt ci`, and whether all edits are good.
+ENDS = [
+    ('all refused', 'rt: ok; handles allowed: none; must-fail edits: 356 refused; done in this run: 3 of the 50 proofs', True),
+    ('a bad edit', 'rt: ok; handles allowed: none; must-fail edits: 355 refused, 1 bad; every proof', False),
+    ('bad edits and a limit', 'rt: ok; handles allowed: none; must-fail edits: 344 refused, 1 of them only by a limit, 12 bad; every proof', False),
+    ('no edit', 'rt: ok; handles allowed: none; every proof', False),
+    ('none refused', 'rt: ok; handles allowed: none; must-fail edits: 0 refused, 3 bad; every proof', False),
+    ('a failure', 'rt: FAILED: units', False),
+]
+
+
+def unread(folder, names):
+    """What no check of the sources reads: of the proofs they look at laws alone."""
+    others = {'target', '.git', 'tests', 'samples', 'out'}
+    return [name for name in names if name in others or pathlib.Path(folder).name == 'proofs' and name != 'Laws']
 
 
 def spoiled(check, wanted, spoil):
     with tempfile.TemporaryDirectory() as room:
         tree = pathlib.Path(room) / 'tree'
-        shutil.copytree(ROOT, tree, ignore=shutil.ignore_patterns('target', '.git', 'tests', 'samples', 'proofs'))
+        shutil.copytree(ROOT, tree, ignore=unread)
         spoil(tree)
         words = ['claims.py'] if check == 'claims' else ['sources.py', check]
         run = subprocess.run([sys.executable, tree / '.ci' / words[0], *words[1:]], capture_output=True, text=True)
         return run.returncode == 1 and wanted in run.stdout, run.stdout + run.stderr
+
+
+def no_bad_edit(line):
+    """The status of the gate's own look at what `rt ci` said at its end."""
+    run = (ROOT / '.ci' / 'run').read_text()
+    start = run.index('no_bad_edit() {')
+    with tempfile.NamedTemporaryFile('w', suffix='.log') as log:
+        log.write(f'{line}\n1 passed, 0 failed\n')
+        log.flush()
+        words = ['bash', '-c', run[start:run.index('\n}', start) + 2] + '\nno_bad_edit "$0" >/dev/null', log.name]
+        return subprocess.run(words, stdin=subprocess.DEVNULL).returncode
 
 
 def main():
@@ -141,22 +223,32 @@ def main():
         if not right:
             failed.append(f'{check} does not see {name}: {said[:300]}')
     for name, log, fact, wanted in LOGS:
-        said = ' '.join(edits.faults_of_log(log, 'units', fact))
+        said = ' '.join(edits.faults_of_said(log, 'units', fact))
         right = wanted in said if wanted else not said
         passed += right
         if not right:
             failed.append(f'{name}: {said}')
     for name, text, wanted in TEXTS:
-        said = ' '.join(edits.faults_of_text(text))
+        said = ' '.join([*edits.faults_of_text(text), *edits.faults_of_proofs(text)])
         right = wanted in said if wanted else not said
         passed += right
         if not right:
             failed.append(f'{name}: {said}')
     for name, steps, same in SHAPES:
-        right = (edits.shape(edits.tree(steps)) == edits.shape(edits.tree(STEPS))) == same
+        right = (edits.shapes(steps) == edits.shapes(STEPS)) == same
         passed += right
         if not right:
             failed.append(f'{name}: the shape is {"not " if same else ""}the same')
+    for text, wanted in (CONDITION, 'returns-then-dtc-eq1'), (RENAMED, None):
+        said = edits.renamed('limits', 'is_data_type', 'returns-then-dtc-eq0', text)
+        passed += said == wanted
+        if said != wanted:
+            failed.append(f'the answer that an edit leaves without its name: {said}, and not {wanted}')
+    for name, line, good in ENDS:
+        right = (no_bad_edit(line) == 0) == good
+        passed += right
+        if not right:
+            failed.append(f'the end of rt ci, {name}: taken for {"bad" if good else "good"}')
     print('\n'.join(failed + [f'{passed} passed, {len(failed)} failed']))
     return 1 if failed or not passed else 0
 
