@@ -1,5 +1,5 @@
 -- A regular scanline of type 2, as nearly all are: whole, and with the header, where there is one, that a good scanline of its size has.
--- `laws/Regular` proves that it is good.
+-- `proofs/Laws/Regular` proves that it is good.
 use Rattle.std.specs.Prelude.{ℕ, ◌+◌, ◌%◌, Bool, true, cond, ◌&&◌, List, length, eqb, leb}
 use Rattle.units.specs.Counts.{word_bytes}
 use Rattle.units.specs.LittleEndian.{byte_at, u16_at}
