@@ -192,50 +192,65 @@ for name in c_guard c_stack; do
     done
 done
 
-# `./lib`, on a copy, with a stand-in for rt: its archive is the source, and a source that says 'wrong' is not proved.
+# `./lib`, on a copy, with a stand-in for rt: its archive is the source, where crates.txt lists capi as a static library, what is below it
+# and nothing else. A source that says 'wrong' is not proved, and one that says 'late' is proved and not built.
 copy=$room/copy
-mkdir -p "$copy/crates/capi" "$copy/include" "$room/stand-in"
+mkdir -p "$copy"/crates/{capi,low,above}/src "$copy/include" "$room/stand-in"
 cp lib "$copy" && cp include/ingr.h "$copy/include"
+printf '# crates\nabove: capi low\ncapi: low std\nlow:\n' >"$copy/crates.txt"
+printf 'low: \ncapi staticlib: low std\n' | sed 's/ $//' >"$room/listed"
+echo low >"$copy/crates/low/src/source"
 cat >"$room/stand-in/rt" <<'END'
 #!/bin/sh
-echo "$*" >>calls
+echo "$*" >>"$CALLS"
 case $1 in
-check)
-    grep -q wrong crates/capi/source && echo "rt: capi NOT PROVED (exit 1, 1 s)" && exit 1
-    [ "$(cksum <crates/capi/source)" = "$(cat target/stamp/capi 2>/dev/null)" ] || echo "rt: capi proved (1 s)"
-    mkdir -p target/stamp && cksum <crates/capi/source >target/stamp/capi ;;
-staticlib)
-    grep -q late crates/capi/source && exit 1
-    mkdir -p target/staticlib && cp crates/capi/source target/staticlib/libcapi.a ;;
+version) echo a kit ;;
+lib)
+    cmp ../../crates.txt "$LISTED" || exit 1
+    [ ! -e ../above ] && [ "$(cat ../low/src/source)" = low ] || exit 1
+    grep -q wrong src/source && echo "logic=not-proved" && exit 1
+    echo "crate capi: modules loaded=0 checked=1" && echo "logic=proved functions=1"
+    grep -q late src/source && exit 1
+    mkdir -p out && cp src/source out/libcapi.a ;;
 esac
 END
 chmod +x "$room/stand-in/rt"
 # Runs `./lib` after its source became the words given.
 lib() {
-    echo "$1" >"$copy/crates/capi/source"
-    rm -f "$copy/calls"
-    (cd / && PATH=$room/stand-in:$PATH "$copy/lib") >"$room/out" 2>"$room/err" </dev/null
+    echo "$1" >"$copy/crates/capi/src/source"
+    rm -f "$room/calls"
+    (cd / && CALLS=$room/calls LISTED=$room/listed PATH=$room/stand-in:$PATH "$copy/lib") >"$room/out" 2>"$room/err" </dev/null
     status=$?
 }
-made() { [ "$status" = 0 ] && [ "$(cat "$room/out")" = target/c/libingr.a$'\n'target/c/ingr.h ] && cmp "$copy/crates/capi/source" "$copy/target/c/libingr.a" && cmp "$copy/include/ingr.h" "$copy/target/c/ingr.h"; }
-called() { [ "$(cat "$copy/calls")" = "$1" ]; }
+made() { [ "$status" = 0 ] && [ "$(cat "$room/out")" = target/c/libingr.a$'\n'target/c/ingr.h ] && cmp "$copy/crates/capi/src/source" "$copy/target/c/libingr.a" && cmp "$copy/include/ingr.h" "$copy/target/c/ingr.h"; }
+built() { made && grep -qx lib "$room/calls"; }
+not_built() { made && ! grep -qx lib "$room/calls" && [ ! -s "$room/err" ]; }
 gone() { [ "$status" = 1 ] && [ ! -s "$room/out" ] && grep -qF -- "$1" "$room/err" && [ ! -e "$copy/target/c/libingr.a" ] && [ ! -e "$copy/target/c/ingr.h" ]; }
 lib one
-try "./lib makes archive and header" made
+try "./lib makes archive and header" built
+try "./lib says what was proved" grep -q '^lib: capi proved' "$room/err"
 lib one
-try "./lib, nothing changed" made
-try "./lib builds nothing then" called "check capi"
+try "./lib builds nothing where nothing changed" not_built
 lib two
-try "./lib, a changed source" made
+try "./lib, a changed source" built
+touch "$copy/crates/above/src/source"
+lib two
+try "./lib, a changed source above it" not_built
+mkdir "$copy/crates/low/specs" && touch "$copy/crates/low/specs/More.antt"
+lib two
+try "./lib, a changed source below it" built
 echo "/* more */" >>"$copy/include/ingr.h"
 lib two
-try "./lib, a changed header" made
+try "./lib, a changed header" not_built
 lib wrong
 try "./lib leaves no archive of before where a proof fails" gone "not proved"
 lib late
 try "./lib leaves none where the archive cannot be built" gone "could not be built"
 lib three
-try "./lib, a source that was put right" made
+try "./lib, a source that was put right" built
+rm "$copy/target/c/libingr.a"
+lib three
+try "./lib, an archive that was removed" built
 only_named() { [ "$(ls -A "$copy/target/c")" = "ingr.h"$'\n'"libingr.a"$'\n'"source" ] && [ -z "$(find "$copy/target" -maxdepth 1 -name 'c.*')" ]; }
 try "./lib leaves nothing else behind" only_named
 
