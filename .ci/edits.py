@@ -80,7 +80,7 @@ def first_refusal(said, crate):
         goal = re.search(r"\(`([\w'-]+)(?:`\)|$)", rest)
         name = goal[1] if goal else ''
         is_cut = not goal or not goal[0].endswith(')')
-        place = function_at(crate, path, line) if path.startswith('src/') else path
+        place = function_at(crate, path, line) if path.startswith('src/') else place_of(path)
     else:
         named = re.match(r"error: `([^`]+)(`: )?", rest)
         if not named:
