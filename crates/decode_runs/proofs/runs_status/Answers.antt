@@ -24,12 +24,12 @@ loop-i-preserved c =
 
 pub returns-then-left-ne0 : goal.returns-then-left-ne0
 returns-then-left-ne0 c =
-    let odd : (word_count c.args.body.now).0 % 2 ≡ 0 → ⊥ = rw c.word_count.ensures at c.if-word_count-eq0.false in
+    let odd_below : (word_count c.args.body.now).0 % 2 ≡ 0 → ⊥ = rw c.word_count.ensures at c.if-word_count-eq0.false in
     let l = c.loop-i in
-    sym (status_below c.args.body.now c.args.p odd (omega (arith, total_none c.args.body.now l.i c.loop-i-test.false)))
+    sym (status_below c.args.body.now c.args.p odd_below (omega (arith, total_none c.args.body.now l.i c.loop-i-test.false)))
 
 pub returns : goal.returns
 returns c =
-    let odd : (word_count c.args.body.now).0 % 2 ≡ 0 → ⊥ = rw c.word_count.ensures at c.if-word_count-eq0.false in
+    let odd_good : (word_count c.args.body.now).0 % 2 ≡ 0 → ⊥ = rw c.word_count.ensures at c.if-word_count-eq0.false in
     let l = c.loop-i in
-    sym (status_good c.args.body.now c.args.p odd (omega (arith, total_none c.args.body.now l.i c.loop-i-test.false)))
+    sym (status_good c.args.body.now c.args.p odd_good (omega (arith, total_none c.args.body.now l.i c.loop-i-test.false)))

@@ -40,9 +40,9 @@ table_rejection-requires c =
 
 pub returns : goal.returns
 returns c =
-    let f = c.args.file.now in
+    let file = c.args.file.now in
     let h = c.fields_of-h.result in
-    by-fields f c.fields_of-h.ensures
-    (by_second (frame_rules (bytes_in f) h) (from-16 f h) c.frame_rejection-frame.ensures tt c.if-frame-ne0.false
-    (by_second (field_rules h) (color_table_rules f h) c.limit_rejection-limit.ensures tt c.if-limit-ne0.false
+    by-fields file c.fields_of-h.ensures
+    (by_second (frame_rules (bytes_in file) h) (from-16 file h) c.frame_rejection-frame.ensures tt c.if-frame-ne0.false
+    (by_second (field_rules h) (color_table_rules file h) c.limit_rejection-limit.ensures tt c.if-limit-ne0.false
     c.table_rejection.ensures))
