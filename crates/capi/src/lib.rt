@@ -173,12 +173,7 @@ fn store_color(c: Rgb, answer: &mut [u8])
 }
 
 // Reads the raster of a file: pixels as two bytes each, low byte first, row after row, and a status for each scanline.
-pub fn ingr_raster(
-    file: &[u8],
-    pixels: &mut [u8],
-    marks: &mut [u8],
-    answer: &mut [u8],
-) -> u32
+pub fn ingr_raster(file: &[u8], pixels: &mut [u8], marks: &mut [u8], answer: &mut [u8]) -> u32
     ensures value { result ≡ result_of raster_size (c_raster file.now pixels.old marks.old) answer.old }
     ensures answer_after { answer.new ≡ answer_after raster_size (c_raster file.now pixels.old marks.old) answer.old }
     ensures pixels_after { pixels.new ≡ unless_short raster_size answer.old pixels.old (pixel_bytes_after file.now pixels.old marks.old) }
@@ -197,13 +192,7 @@ pub fn ingr_raster(
 }
 
 // Turns a sheet of nol lines of ppl pixels into the upright picture.
-pub fn ingr_turn(
-    slo: u32,
-    ppl: u32,
-    nol: u32,
-    pixels: &[u16],
-    upright: &mut [u16],
-) -> u32
+pub fn ingr_turn(slo: u32, ppl: u32, nol: u32, pixels: &[u16], upright: &mut [u16]) -> u32
     ensures value { result ≡ turn_rejection slo ppl nol (length pixels.now) (length upright.old) }
     ensures upright_after { upright.new ≡ upright_after slo ppl nol pixels.now upright.old }
 {
@@ -211,13 +200,7 @@ pub fn ingr_turn(
 }
 
 // Turns an upright picture back into the sheet of nol lines of ppl pixels.
-pub fn ingr_turn_back(
-    slo: u32,
-    ppl: u32,
-    nol: u32,
-    upright: &[u16],
-    pixels: &mut [u16],
-) -> u32
+pub fn ingr_turn_back(slo: u32, ppl: u32, nol: u32, upright: &[u16], pixels: &mut [u16]) -> u32
     ensures value { result ≡ turn_rejection slo ppl nol (length upright.now) (length pixels.old) }
     ensures pixels_after { pixels.new ≡ pixels_after slo ppl nol upright.now pixels.old }
 {

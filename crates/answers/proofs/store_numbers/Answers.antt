@@ -1,7 +1,6 @@
-use Rattle.std.proofs.Common.{◌-◌, ◌*◌, ◌≤◌, zero-le, ◌≡◌, refl, sym, ◌∙◌, ap, arith, length, get_or, drop, rules}
-use lib.Seq.{sets, length-sets}
+use Rattle.std.proofs.Common.{◌*◌, zero-le, refl, sym, ◌∙◌, ap, arith, length, get_or}
+use lib.Seq.{length-sets}
 use Rattle.units.specs.LittleEndian.{u32_bytes}
-use Rattle.units.specs.Over.{over}
 use Rattle.units.proofs.Laws.Over.{sets_over}
 use Rattle.answers.specs.Answer.{number_bytes}
 use Rattle.answers.proofs.Laws.Numbers.{sets-number, sets-none}

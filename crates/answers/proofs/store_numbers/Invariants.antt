@@ -1,10 +1,7 @@
-use Rattle.std.proofs.Common.{◌-◌, ◌*◌, ◌≤◌, zero-le, ◌≡◌, refl, sym, ◌∙◌, ap, arith, length, get_or, drop, rules}
-use lib.Seq.{sets, length-sets}
-use Rattle.units.specs.LittleEndian.{u32_bytes}
+use Rattle.std.proofs.Common.{◌-◌, ◌*◌, ◌≤◌, ◌≡◌, length, drop}
+use lib.Seq.{sets}
 use Rattle.units.specs.Over.{over}
-use Rattle.units.proofs.Laws.Over.{sets_over}
 use Rattle.answers.specs.Answer.{number_bytes}
-use Rattle.answers.proofs.Laws.Numbers.{sets-number, sets-none}
 use Rattle.answers.proofs.store_numbers.Given as goal
 
 abbrev pub invariant-loop-i : goal.invariant-loop-i

@@ -1,4 +1,4 @@
-use Rattle.std.proofs.Common.{arith, rules}
+use Rattle.std.proofs.Common.{arith}
 use Rattle.answers.proofs.Laws.Call.{too_short}
 use Rattle.capi.specs.Calls.{color_size, c_color}
 use Rattle.capi.proofs.Laws.Rejections.{color-from}

@@ -1,4 +1,4 @@
-use Rattle.std.proofs.Common.{◌≡◌, sym, ◌∙◌, ap, arith, rules}
+use Rattle.std.proofs.Common.{◌≡◌, sym, ◌∙◌, ap, arith}
 use Rattle.units.specs.Over.{over}
 use Rattle.header.specs.declared.reading.HeaderAnswer.TheVariants.{Accepted}
 use Rattle.header.specs.Reading.{HeaderNumbers, rejected_numbers, header_numbers, header_reading}

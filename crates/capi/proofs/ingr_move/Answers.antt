@@ -1,4 +1,4 @@
-use Rattle.std.proofs.Common.{◌<◌, arith, length, rules}
+use Rattle.std.proofs.Common.{◌<◌, arith, length}
 use Rattle.transcode.specs.Transcoding.{out_transcoded}
 use Rattle.transcode.proofs.Laws.Call.{number-from, size_most}
 use Rattle.answers.proofs.Laws.Call.{too_short, kept_if_short}
@@ -16,7 +16,7 @@ pub store_written-requires : goal.store_written-requires
 store_written-requires c =
     let a = c.args in
     let room = length a.out.now in
-    let x = c.transcode-written.ensures.result_value in record { write_size_in_bounds = omega (arith, c.if-answer-lt-WRITE_SIZE.false); told = record { number-from = number-from a.file.now room c.transcode-written.result x; size_most = size_most a.file.now room c.transcode-written.result x; } }
+    let x = c.transcode-written.ensures.result_value in record { write_size_in_bounds = omega (arith, c.if-answer-lt-WRITE_SIZE.false); told = record { number-from = number-from a.file.now room c.transcode-written.result x; size_most = size_most a.file.now room c.transcode-written.result x } }
 
 pub returns : goal.returns
 returns c =

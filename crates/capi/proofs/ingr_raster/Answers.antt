@@ -1,4 +1,4 @@
-use Rattle.std.proofs.Common.{arith, rules}
+use Rattle.std.proofs.Common.{arith}
 use Rattle.capi.proofs.Laws.Reading.{read_short, end_fits, read_rejected, read_done}
 use Rattle.capi.proofs.ingr_raster.Goals as goal
 

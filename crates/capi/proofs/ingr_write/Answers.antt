@@ -1,4 +1,4 @@
-use Rattle.std.proofs.Common.{◌%◌, ◌<◌, arith, length, rules}
+use Rattle.std.proofs.Common.{◌%◌, ◌<◌, arith, length}
 use Rattle.encode_header.specs.Picture.{Picture}
 use Rattle.encode_raster.specs.Writing.{out_after}
 use Rattle.encode_raster.specs.Answer.{picture}
@@ -18,7 +18,7 @@ returns-then-answer-lt-WRITE_SIZE c =
 pub store_written-requires : goal.store_written-requires
 store_written-requires c =
     let room = length c.args.out.now in
-    let x = c.write_raster-written.ensures.result_value in record { write_size_in_bounds = omega (arith, c.if-answer-lt-WRITE_SIZE.false); told = record { number-from = number-from _ room c.write_raster-written.result x; size_most = size_most _ room c.write_raster-written.result x; } }
+    let x = c.write_raster-written.ensures.result_value in record { write_size_in_bounds = omega (arith, c.if-answer-lt-WRITE_SIZE.false); told = record { number-from = number-from _ room c.write_raster-written.result x; size_most = size_most _ room c.write_raster-written.result x } }
 
 pub returns : goal.returns
 returns c =

@@ -1,4 +1,4 @@
-use Rattle.std.proofs.Common.{sym, ◌∙◌, [], ◌∷◌, arith, rules}
+use Rattle.std.proofs.Common.{sym, ◌∙◌, [], ◌∷◌, arith}
 use Rattle.units.specs.Over.{over}
 use Rattle.color.specs.Color.{color_numbers}
 use Rattle.answers.specs.Answer.{number_bytes}

@@ -1,4 +1,3 @@
-use Rattle.std.proofs.Common.{rules}
 use Rattle.capi.proofs.store_header.Goals as goal
 
 pub returns : goal.returns

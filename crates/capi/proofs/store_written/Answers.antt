@@ -1,4 +1,4 @@
-use Rattle.std.proofs.Common.{arith, rules}
+use Rattle.std.proofs.Common.{arith}
 use Rattle.capi.proofs.Laws.Writing.{write_rejected, write_done}
 use Rattle.capi.proofs.store_written.Goals as goal
 

@@ -1,7 +1,6 @@
-use Rattle.std.proofs.Common.{Bool, false, cond, ⊎_elim, List, ◌≡◌, sym, ◌∙◌, ap, ℕ, rules}
+use Rattle.std.proofs.Common.{Bool, false, cond, List, ◌≡◌, sym, ◌∙◌, ap, ℕ}
 use Rattle.units.proofs.Laws.Scan.{either}
 use Rattle.fields.specs.declared.Fields.{Fields}
-use Rattle.fields.specs.Fields.{fields_of}
 use Rattle.header.specs.Rejections.{rejection_to22}
 use Rattle.color.specs.Color.{ColorNumbers, no_color, is_inked, color_reading, plotter_reading}
 use Rattle.color.proofs.Laws.Colors.{Both, both_rejected, by_plotter, by_ink, by_table}
@@ -47,6 +46,7 @@ returns c =
     let accepted : rejection_to22 f ≡ 0 = sym c.rejection_to_22-number.ensures ∙ c.if-number-ne0.false in
     let inked = ap (λ (h : Fields). is_inked h.dtc h.ctv) c.fields_of-h.ensures in
     c.table_color.ensures
-    ∙ elim c.else-ink.branch
-      [ else-ink-via-then-ink+else-is_inked w ↦ either_is a.ink f a.value (by_table f a.value accepted (sym inked ∙ sym w.is_inked.ensures ∙ w.if-is_inked.false))
-      | else-ink-via-else-ink w ↦ plotter-is a.ink f a.value w.if-ink.false (by_plotter f a.value accepted) ]
+    ∙ elim c.else-ink.branch [
+      | else-ink-via-then-ink+else-is_inked w ↦ either_is a.ink f a.value (by_table f a.value accepted (sym inked ∙ sym w.is_inked.ensures ∙ w.if-is_inked.false))
+      | else-ink-via-else-ink w ↦ plotter-is a.ink f a.value w.if-ink.false (by_plotter f a.value accepted)
+    ]

@@ -1,4 +1,3 @@
-use Rattle.std.proofs.Common.{rules}
 use Rattle.color.proofs.color_of.Goals as goal
 
 pub returns : goal.returns

@@ -1,4 +1,3 @@
-use Rattle.std.proofs.Common.{rules}
 use Rattle.color.proofs.entry_color.Goals as goal
 
 pub returns : goal.returns

@@ -1,7 +1,6 @@
-use Rattle.std.proofs.Common.{eqb, eq-eqb, ne_eqb, rules, ℕ, ◌-◌, ◌≡◌, refl, sym, ◌∙◌}
+use Rattle.std.proofs.Common.{eqb, eq-eqb, ne_eqb, ℕ, refl, sym, ◌∙◌}
 use Rattle.color.specs.Color.{environ_color, entry_color, no_color}
 use Rattle.header.specs.Rejections.{slot_at}
-use Rattle.units.specs.Scan.{scan}
 use Rattle.units.proofs.Laws.Scan.{scan_hit, scan_miss, scan-end}
 use Rattle.color.proofs.environ_color.Goals as goal
 

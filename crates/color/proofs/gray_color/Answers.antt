@@ -1,4 +1,4 @@
-use Rattle.std.proofs.Common.{lt-ltb, le-ltb, rules}
+use Rattle.std.proofs.Common.{lt-ltb, le-ltb}
 use Rattle.color.proofs.gray_color.Goals as goal
 
 pub returns-then-value-gt255 : goal.returns-then-value-gt255

@@ -1,4 +1,4 @@
-use Rattle.std.proofs.Common.{arith, eq-eqb, ne_eqb, rules}
+use Rattle.std.proofs.Common.{arith, eq-eqb, ne_eqb}
 use Rattle.color.proofs.ink_color.Goals as goal
 
 pub returns-then-value-eq0 : goal.returns-then-value-eq0

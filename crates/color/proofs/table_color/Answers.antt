@@ -1,4 +1,4 @@
-use Rattle.std.proofs.Common.{eq-eqb, ne_eqb, arith, List, ℕ, ◌≤◌, ◌≡◌, sym, ◌∙◌, ap, rules}
+use Rattle.std.proofs.Common.{eq-eqb, ne_eqb, arith, List, ℕ, ◌≤◌, ◌≡◌, sym, ◌∙◌, ap}
 use Rattle.color.specs.Color.{ColorNumbers, table_color, gray_color, igds_color, environ_color}
 use Rattle.header.proofs.Laws.Accepted.{Accepted, accepted}
 use Rattle.header.specs.Rejections.{rejection_to22}

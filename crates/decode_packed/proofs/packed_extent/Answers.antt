@@ -1,4 +1,4 @@
-use Rattle.std.proofs.Common.{ℕ, ◌≤◌, ◌≡◌, sym, ◌∙◌, ap, cond, length, take, length-take-le, eq-eqb, lt-ltb, le-ltb, arith, rules}
+use Rattle.std.proofs.Common.{ℕ, ◌≤◌, ◌≡◌, sym, ◌∙◌, ap, cond, length, take, length-take-le, eq-eqb, lt-ltb, le-ltb, arith}
 use Rattle.units.specs.Counts.{word_bytes}
 use Rattle.units.specs.Rules.{first}
 use Rattle.units.specs.Words.{word_count}

@@ -1,4 +1,4 @@
-use Rattle.std.proofs.Common.{eq-eqb, ne_eqb, ◌≡◌, sym, ◌∙◌, rules}
+use Rattle.std.proofs.Common.{eq-eqb, ne_eqb, ◌≡◌, sym, ◌∙◌}
 use Rattle.units.specs.Words.{word_count}
 use Rattle.packing.specs.Packing.{packed_count}
 use Rattle.decode_packed.proofs.packed_status.Goals as goal

@@ -1,4 +1,4 @@
-use Rattle.std.proofs.Common.{sym, ◌∙◌, rules}
+use Rattle.std.proofs.Common.{sym, ◌∙◌}
 use Rattle.units.specs.Words.{words}
 use Rattle.units.proofs.Laws.Over.{over_taken}
 use Rattle.packing.specs.Packing.{word_bits}

@@ -1,4 +1,4 @@
-use Rattle.std.proofs.Common.{sym, arith, length-take-le, rules}
+use Rattle.std.proofs.Common.{sym, arith, length-take-le}
 use Rattle.units.specs.Words.{words, word_count}
 use Rattle.packing.specs.Packing.{word_bits}
 use Rattle.decode_packed.proofs.Laws.Clearing.{cleared, length-pixels}

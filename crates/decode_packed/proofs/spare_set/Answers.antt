@@ -1,4 +1,4 @@
-use Rattle.std.proofs.Common.{◌-◌, ◌%◌, ◌/◌, ◌≡◌, sym, pow_pos, arith, rules}
+use Rattle.std.proofs.Common.{◌-◌, ◌%◌, ◌/◌, ◌≡◌, sym, pow_pos, arith}
 use Rattle.units.specs.Counts.{word_bytes}
 use Rattle.packing.proofs.Laws.Spare.{spare_none, spare_some, divisor}
 use Rattle.decode_packed.proofs.spare_set.Goals as goal

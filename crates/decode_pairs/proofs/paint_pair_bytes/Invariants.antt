@@ -1,10 +1,9 @@
-use Rattle.std.proofs.Common.{rules, length, drop, arith, ◌+◌, ◌-◌, ◌≤◌, zero-le, ◌≡◌, refl, ◌∙◌}
+use Rattle.std.proofs.Common.{length, drop, ◌-◌, ◌≤◌, ◌≡◌}
 use lib.Seq.{sets}
 use Rattle.units.specs.Over.{over, zeros}
 use Rattle.units.specs.Words.{words, words_to_bytes}
-use Rattle.slices.proofs.Laws.Painting.{blank_from, run_next_blank, blank-first, blank_last}
+use Rattle.slices.proofs.Laws.Painting.{blank_from}
 use Rattle.codec.specs.PairPixels.{pair_pixels}
-use Rattle.codec.proofs.Laws.PairReading.{pair_pixels_lem, end_pixels}
 use Rattle.decode_pairs.proofs.paint_pair_bytes.Given as goal
 
 abbrev pub invariant-loop-i : goal.invariant-loop-i

@@ -1,7 +1,6 @@
-use Rattle.std.proofs.Common.{rules, length, drop, replicate, arith, ◌+◌, ◌-◌, ◌≤◌, zero-le, ◌≡◌, refl, ◌∙◌, ap}
-use lib.Seq.{sets, length-sets}
-use Rattle.units.specs.Over.{over}
-use Rattle.units.specs.Words.{words, words_to_bytes}
+use Rattle.std.proofs.Common.{length, drop, replicate, ◌+◌, zero-le, refl, ◌∙◌, ap}
+use lib.Seq.{length-sets}
+use Rattle.units.specs.Words.{words}
 use Rattle.units.proofs.Laws.Over.{sets_over}
 use Rattle.slices.proofs.Laws.Painting.{run_next}
 use Rattle.codec.specs.PairPixels.{pair_pixels}

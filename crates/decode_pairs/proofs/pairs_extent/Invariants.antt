@@ -1,5 +1,4 @@
-use Rattle.std.proofs.Common.{rules, length, drop, arith, ℕ, ◌+◌, ◌-◌, ◌≤◌, zero-le, ◌≡◌, refl, sym, ◌∙◌, ap}
-use Rattle.codec.proofs.Laws.PairReading.{pair_over, pair_full, pair_more, end_from}
+use Rattle.std.proofs.Common.{length, drop, ◌-◌, ◌≤◌, ◌≡◌}
 use Rattle.codec.specs.PairPixels.{pairs_from}
 use Rattle.units.specs.Words.{words}
 use Rattle.decode_pairs.proofs.pairs_extent.Given as goal

@@ -1,4 +1,4 @@
-use Rattle.std.proofs.Common.{lt-ltb, le-ltb, eq-eqb, ne_eqb, rules, length, drop, arith, le_refl, ◌+◌, ◌-◌, ◌%◌, ◌≤◌, ◌<◌, ◌≡◌}
+use Rattle.std.proofs.Common.{lt-ltb, le-ltb, eq-eqb, ne_eqb, arith, le_refl, ◌%◌, ◌<◌, ◌≡◌}
 use Rattle.codec.proofs.Laws.PairReading.{pair_total_lem, end_total}
 use Rattle.codec.specs.PairPixels.{pair_total}
 use Rattle.units.specs.Words.{words, word_count}

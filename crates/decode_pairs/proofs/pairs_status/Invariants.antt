@@ -1,7 +1,6 @@
-use Rattle.std.proofs.Common.{lt-ltb, le-ltb, eq-eqb, ne_eqb, rules, length, drop, arith, le_refl, ◌+◌, ◌-◌, ◌%◌, ◌≤◌, ◌<◌, ◌≡◌}
-use Rattle.codec.proofs.Laws.PairReading.{pair_total_lem, end_total}
+use Rattle.std.proofs.Common.{length, drop, ◌+◌, ◌-◌, ◌≤◌, ◌≡◌}
 use Rattle.codec.specs.PairPixels.{pair_total}
-use Rattle.units.specs.Words.{words, word_count}
+use Rattle.units.specs.Words.{words}
 use Rattle.decode_pairs.proofs.pairs_status.Given as goal
 
 abbrev pub invariant-loop-i : goal.invariant-loop-i

@@ -1,4 +1,4 @@
-use Rattle.std.proofs.Common.{ℕ, ◌-◌, ◌≤◌, ◌∙◌, ap, subst, arith, length, take, drop, rules}
+use Rattle.std.proofs.Common.{ℕ, ◌-◌, ◌≤◌, ◌∙◌, ap, subst, arith, length, take, drop}
 use Rattle.units.specs.Over.{zeros}
 use Rattle.layout.specs.Scanline.{step_of, reading_of}
 use Rattle.layout.specs.Chain.{raster_of}

@@ -1,7 +1,7 @@
-use Rattle.std.proofs.Common.{rules, ◌+◌, ◌-◌, ◌*◌, ◌≤◌, ◌≡◌, arith, length}
+use Rattle.std.proofs.Common.{◌+◌, ◌*◌, ◌≤◌, ◌≡◌, arith, length}
 use Rattle.layout.specs.Chain.{raster_of}
 use Rattle.decode_raster.specs.Laws.Answer.{as_pixels}
-use Rattle.decode_raster.proofs.Laws.Lines.{LinesAt, lines_first, row_fits, lent_length, lines_next, lines_done}
+use Rattle.decode_raster.proofs.Laws.Lines.{lines_first, row_fits, lent_length, lines_next, lines_done}
 use Rattle.decode_raster.proofs.read_lines.Goals as goal
 
 pub loop-k-init : goal.loop-k-init

@@ -1,4 +1,4 @@
-use Rattle.std.proofs.Common.{◌∙◌, rules}
+use Rattle.std.proofs.Common.{◌∙◌}
 use Rattle.decode_raster.proofs.Laws.Whole.{rejected_whole, has_room, read_whole}
 use Rattle.decode_raster.proofs.read_raster.Goals as goal
 

@@ -1,25 +1,22 @@
 -- Scanlines as a loop of their own reads them, while all are regular.
-use Rattle.std.proofs.Common.{ℕ, suc, ◌+◌, ◌-◌, ◌*◌, ◌≤◌, ◌<◌, true, false, List, ⊎_elim, ◌≡◌, refl, sym, ◌∙◌, ap, arith, length, take, drop, set, length-drop, drop-drop, rules}
+use Rattle.std.proofs.Common.{ℕ, suc, ◌+◌, ◌-◌, ◌*◌, ◌<◌, false, List, ◌≡◌, refl, sym, ◌∙◌, ap, arith, length, take, drop, set, drop-drop}
 use mathlib.Core.Path.{subst⁻¹}
-use borrow.Author.Tests.{not-false}
 use borrow.Rule.Slice.PartMut.{mid_of, put_mid}
 use Rattle.units.specs.Counts.{word_bytes}
 use Rattle.units.specs.Over.{over}
 use Rattle.units.specs.Words.{words_to_bytes}
 use Rattle.units.proofs.Laws.Parts.{rest_is}
-use Rattle.numbering.proofs.Laws.Numbering.{rolls_over, number_most}
-use Rattle.layout.specs.Chain.{Raster, raster_of, from, start, reached, number_of}
+use Rattle.layout.specs.Chain.{Raster, from, start, number_of}
 use Rattle.layout.specs.Scanline.{step_of, reading_of}
-use Rattle.layout.proofs.Laws.Chain.{start_within}
 use Rattle.layout.proofs.Laws.Line.{length-row}
-use Rattle.layout.proofs.Laws.Numbering.{RolloverKnown, known_here, run-number, run_known}
+use Rattle.layout.proofs.Laws.Numbering.{RolloverKnown}
 use Rattle.scan_scanline.specs.Answer.{IsScan, body_start}
-use Rattle.scan_scanline.specs.Regular.{regular_size, is_regular}
-use Rattle.scan_scanline.proofs.Laws.Regular.{good_scan, Regular, regular}
+use Rattle.scan_scanline.specs.Regular.{regular_size}
+use Rattle.scan_scanline.proofs.Laws.Regular.{good_scan, Regular}
 use Rattle.decode_raster.specs.declared.Chain.{Chain}
 use Rattle.decode_raster.specs.Laws.Answer.{as_bytes, Fits, Stepped}
 use Rattle.decode_raster.proofs.Laws.Steps.{step_on, bytes_full}
-use Rattle.decode_raster.proofs.Laws.Lines.{LinesAt, lines_first, row_fits, lent_length, lines_next}
+use Rattle.decode_raster.proofs.Laws.Lines.{LinesAt, lent_length, lines_next}
 
 -- the chain before scanline k, where all scanlines before it are good
 abbrev pub good_chain : ℕ → ℕ → ℕ → Chain

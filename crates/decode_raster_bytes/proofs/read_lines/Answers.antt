@@ -155,7 +155,7 @@ pub loop-k-preserved : goal.loop-k-preserved
 loop-k-preserved c =
     let width : ℕ = c.words_to_bytes-width.result.0 in
     let width_is : width ≡ word_bytes c.args.l.ppl = omega (arith, c.well_formed) in
-    let fits-too : (pixels₁ marks₁ : List ℕ) → let a = c.args in let x = c.read_regular-chain in LinesAt (raster_of a.l a.bytes.now) (as_bytes a.l.ppl) pixels₁ marks₁ x.new.pixels x.new.marks x.result x.result.good → Fits (raster_of a.l a.bytes.now) (word_bytes a.l.ppl) (length pixels₁) (length marks₁) = λ pixels₁ marks₁ read. let x = c.read_regular-chain.ensures in let p = c.requires in record { starts = p.starts; nol_most = p.nol_most; pixels_fit = subst (λ (n : ℕ). c.args.l.nol * word_bytes c.args.l.ppl ≤ n) (sym x.pixels-length ∙ read.pixels-length) p.pixels_fit; marks_fit = omega (arith, p.marks_fit, x.marks_length, read.marks_length); } in
+    let fits-too : (pixels₁ marks₁ : List ℕ) → let a = c.args in let x = c.read_regular-chain in LinesAt (raster_of a.l a.bytes.now) (as_bytes a.l.ppl) pixels₁ marks₁ x.new.pixels x.new.marks x.result x.result.good → Fits (raster_of a.l a.bytes.now) (word_bytes a.l.ppl) (length pixels₁) (length marks₁) = λ pixels₁ marks₁ read. let x = c.read_regular-chain.ensures in let p = c.requires in record { starts = p.starts; nol_most = p.nol_most; pixels_fit = subst (λ (n : ℕ). c.args.l.nol * word_bytes c.args.l.ppl ≤ n) (sym x.pixels-length ∙ read.pixels-length) p.pixels_fit; marks_fit = omega (arith, p.marks_fit, x.marks_length, read.marks_length) } in
     let l = c.loop-k in
     let r = raster_of c.args.l c.args.bytes.now in
     let d = c.read_line-chain.result in

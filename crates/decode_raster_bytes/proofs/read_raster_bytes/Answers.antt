@@ -1,4 +1,4 @@
-use Rattle.std.proofs.Common.{ℕ, ◌/◌, ◌≡◌, ◌∙◌, ap, length, rules}
+use Rattle.std.proofs.Common.{ℕ, ◌/◌, ◌≡◌, ◌∙◌, ap, length}
 use Rattle.layout.specs.Reading.{raster_rejection}
 use Rattle.decode_raster.proofs.Laws.Whole.{rejected_bytes, has_room_bytes, read-whole-bytes}
 use Rattle.decode_raster_bytes.proofs.read_raster_bytes.Goals as goal

@@ -1,24 +1,17 @@
-use Rattle.std.proofs.Common.{ℕ, suc, ◌+◌, ◌-◌, ◌*◌, ◌≤◌, ◌<◌, true, false, List, ⊎_elim, ◌≡◌, refl, sym, ◌∙◌, ap, arith, length, take, drop, set, length-drop, drop-drop, rules}
+use Rattle.std.proofs.Common.{ℕ, suc, ◌+◌, ◌-◌, ◌*◌, ◌≤◌, ◌<◌, true, false, List, ◌≡◌, refl, sym, ◌∙◌, ap, arith, length, take, drop, length-drop}
 use mathlib.Core.Path.{subst⁻¹}
 use borrow.Author.Tests.{not-false}
-use borrow.Rule.Slice.PartMut.{mid_of, put_mid}
 use Rattle.units.specs.Counts.{word_bytes}
-use Rattle.units.specs.Over.{over}
-use Rattle.units.specs.Words.{words_to_bytes}
 use Rattle.units.proofs.Laws.Parts.{rest_is}
 use Rattle.numbering.proofs.Laws.Numbering.{rolls_over, number_most}
 use Rattle.layout.specs.Chain.{Raster, raster_of, from, start, reached, number_of}
-use Rattle.layout.specs.Scanline.{step_of, reading_of}
 use Rattle.layout.proofs.Laws.Chain.{start_within}
-use Rattle.layout.proofs.Laws.Line.{length-row}
 use Rattle.layout.proofs.Laws.Numbering.{RolloverKnown, known_here, run-number, run_known}
-use Rattle.scan_scanline.specs.Answer.{IsScan, body_start}
+use Rattle.scan_scanline.specs.Answer.{body_start}
 use Rattle.scan_scanline.specs.Regular.{regular_size, is_regular}
-use Rattle.scan_scanline.proofs.Laws.Regular.{good_scan, Regular, regular}
-use Rattle.decode_raster.specs.declared.Chain.{Chain}
-use Rattle.decode_raster.specs.Laws.Answer.{as_bytes, Fits, Stepped}
-use Rattle.decode_raster.proofs.Laws.Steps.{step_on, bytes_full}
-use Rattle.decode_raster.proofs.Laws.Lines.{LinesAt, lines_first, row_fits, lent_length, lines_next}
+use Rattle.scan_scanline.proofs.Laws.Regular.{Regular, regular}
+use Rattle.decode_raster.specs.Laws.Answer.{as_bytes, Fits}
+use Rattle.decode_raster.proofs.Laws.Lines.{LinesAt, lines_first, row_fits}
 use Rattle.decode_raster_bytes.proofs.read_regular.Goals as goal
 use Rattle.decode_raster_bytes.proofs.read_regular.Goals.{then-l-eq2, else-l-eq2, else-runs-test, then-runs-test+then-loop-k-test+then-not-is_regular}
 use Rattle.decode_raster_bytes.proofs.Laws.Regular.{good_chain, next, renumbered, same_lines}
@@ -45,17 +38,17 @@ overflow_add-before c =
 
 pub overflow_cast-before : goal.overflow_cast-before
 overflow_cast-before c =
-    let counted : (c.number_line-numbered.result.number ≤ 65535) × (c.number_line-numbered.result.number ≤ c.runs.k + 1) = let n = c.number_line-numbered in let k = c.runs.k in ( omega (arith, n.ensures.number_value, (rolls_over n.result.rollover).one_word k), omega (arith, n.ensures.number_value, number_most n.result.rollover k), ) in
+    let counted : (c.number_line-numbered.result.number ≤ 65535) × (c.number_line-numbered.result.number ≤ c.runs.k + 1) = let n = c.number_line-numbered in let k = c.runs.k in (omega (arith, n.ensures.number_value, (rolls_over n.result.rollover).one_word k), omega (arith, n.ensures.number_value, number_most n.result.rollover k)) in
     omega (arith, counted)
 
 pub overflow_sub-before : goal.overflow_sub-before
 overflow_sub-before c =
-    let counted : (c.number_line-numbered.result.number ≤ 65535) × (c.number_line-numbered.result.number ≤ c.runs.k + 1) = let n = c.number_line-numbered in let k = c.runs.k in ( omega (arith, n.ensures.number_value, (rolls_over n.result.rollover).one_word k), omega (arith, n.ensures.number_value, number_most n.result.rollover k), ) in
+    let counted : (c.number_line-numbered.result.number ≤ 65535) × (c.number_line-numbered.result.number ≤ c.runs.k + 1) = let n = c.number_line-numbered in let k = c.runs.k in (omega (arith, n.ensures.number_value, (rolls_over n.result.rollover).one_word k), omega (arith, n.ensures.number_value, number_most n.result.rollover k)) in
     counted.1
 
 pub overflow_add-before-in-runs : goal.overflow_add-before-in-runs
 overflow_add-before-in-runs c =
-    let counted : (c.number_line-numbered.result.number ≤ 65535) × (c.number_line-numbered.result.number ≤ c.runs.k + 1) = let n = c.number_line-numbered in let k = c.runs.k in ( omega (arith, n.ensures.number_value, (rolls_over n.result.rollover).one_word k), omega (arith, n.ensures.number_value, number_most n.result.rollover k), ) in
+    let counted : (c.number_line-numbered.result.number ≤ 65535) × (c.number_line-numbered.result.number ≤ c.runs.k + 1) = let n = c.number_line-numbered in let k = c.runs.k in (omega (arith, n.ensures.number_value, (rolls_over n.result.rollover).one_word k), omega (arith, n.ensures.number_value, number_most n.result.rollover k)) in
     let typed : (c.args.l.dtc ≡ 2) × (c.if-l-eq2.n ≡ c.args.l.nol) = elim c.if-l-eq2.branch [ then-l-eq2 w ↦ (w.if-l-eq2.true, omega arith) | else-l-eq2 w ↦ absurd (omega arith) ] in
     omega (arith, counted, typed, c.requires.nol_most, c.runs-test.true)
 
@@ -64,7 +57,7 @@ loop-k-init c = (omega arith, λ pixels₁ marks₁ read. read)
 
 pub runs-smaller : goal.runs-smaller
 runs-smaller c =
-    let counted : (c.number_line-numbered.result.number ≤ 65535) × (c.number_line-numbered.result.number ≤ c.runs.k + 1) = let n = c.number_line-numbered in let k = c.runs.k in ( omega (arith, n.ensures.number_value, (rolls_over n.result.rollover).one_word k), omega (arith, n.ensures.number_value, number_most n.result.rollover k), ) in
+    let counted : (c.number_line-numbered.result.number ≤ 65535) × (c.number_line-numbered.result.number ≤ c.runs.k + 1) = let n = c.number_line-numbered in let k = c.runs.k in (omega (arith, n.ensures.number_value, (rolls_over n.result.rollover).one_word k), omega (arith, n.ensures.number_value, number_most n.result.rollover k)) in
     let end : ℕ = c.lesser-end.result in
     let longer : c.runs.k < end = let e = c.lesser-end.ensures in omega (arith, e, counted, c.runs-test.true) in
     omega (arith, longer, c.loop-k-test.false, c.runs-test.true)
@@ -83,13 +76,13 @@ overflow_add-k c =
     let end : ℕ = c.lesser-end.result in
     let before : ℕ = c.runs.k + 1 - c.number_line-numbered.result.number in
     let ends_by : (end ≤ before + 65535) × (end ≤ c.if-l-eq2.n) = let e = c.lesser-end.ensures in omega arith in
-    let counted : (c.number_line-numbered.result.number ≤ 65535) × (c.number_line-numbered.result.number ≤ c.runs.k + 1) = let n = c.number_line-numbered in let k = c.runs.k in ( omega (arith, n.ensures.number_value, (rolls_over n.result.rollover).one_word k), omega (arith, n.ensures.number_value, number_most n.result.rollover k), ) in
+    let counted : (c.number_line-numbered.result.number ≤ 65535) × (c.number_line-numbered.result.number ≤ c.runs.k + 1) = let n = c.number_line-numbered in let k = c.runs.k in (omega (arith, n.ensures.number_value, (rolls_over n.result.rollover).one_word k), omega (arith, n.ensures.number_value, number_most n.result.rollover k)) in
     let within : (c.loop-k.k < c.args.l.nol) × (c.loop-k.k + 1 - before ≤ 65535) = omega (arith, typed, ends_by, c.loop-k-test.true, counted) in
     omega (arith, within, c.requires.nol_most)
 
 pub overflow_sub-k : goal.overflow_sub-k
 overflow_sub-k c =
-    let counted : (c.number_line-numbered.result.number ≤ 65535) × (c.number_line-numbered.result.number ≤ c.runs.k + 1) = let n = c.number_line-numbered in let k = c.runs.k in ( omega (arith, n.ensures.number_value, (rolls_over n.result.rollover).one_word k), omega (arith, n.ensures.number_value, number_most n.result.rollover k), ) in
+    let counted : (c.number_line-numbered.result.number ≤ 65535) × (c.number_line-numbered.result.number ≤ c.runs.k + 1) = let n = c.number_line-numbered in let k = c.runs.k in (omega (arith, n.ensures.number_value, (rolls_over n.result.rollover).one_word k), omega (arith, n.ensures.number_value, number_most n.result.rollover k)) in
     omega (arith, c.loop-k.invariant.0, counted)
 
 pub overflow_cast-k : goal.overflow_cast-k
@@ -98,7 +91,7 @@ overflow_cast-k c =
     let end : ℕ = c.lesser-end.result in
     let before : ℕ = c.runs.k + 1 - c.number_line-numbered.result.number in
     let ends_by : (end ≤ before + 65535) × (end ≤ c.if-l-eq2.n) = let e = c.lesser-end.ensures in omega arith in
-    let counted : (c.number_line-numbered.result.number ≤ 65535) × (c.number_line-numbered.result.number ≤ c.runs.k + 1) = let n = c.number_line-numbered in let k = c.runs.k in ( omega (arith, n.ensures.number_value, (rolls_over n.result.rollover).one_word k), omega (arith, n.ensures.number_value, number_most n.result.rollover k), ) in
+    let counted : (c.number_line-numbered.result.number ≤ 65535) × (c.number_line-numbered.result.number ≤ c.runs.k + 1) = let n = c.number_line-numbered in let k = c.runs.k in (omega (arith, n.ensures.number_value, (rolls_over n.result.rollover).one_word k), omega (arith, n.ensures.number_value, number_most n.result.rollover k)) in
     let within : (c.loop-k.k < c.args.l.nol) × (c.loop-k.k + 1 - before ≤ 65535) = omega (arith, typed, ends_by, c.loop-k-test.true, counted) in
     omega (arith, within)
 
@@ -132,7 +125,7 @@ overflow_mul-from c =
     let end : ℕ = c.lesser-end.result in
     let before : ℕ = c.runs.k + 1 - c.number_line-numbered.result.number in
     let ends_by : (end ≤ before + 65535) × (end ≤ c.if-l-eq2.n) = let e = c.lesser-end.ensures in omega arith in
-    let counted : (c.number_line-numbered.result.number ≤ 65535) × (c.number_line-numbered.result.number ≤ c.runs.k + 1) = let n = c.number_line-numbered in let k = c.runs.k in ( omega (arith, n.ensures.number_value, (rolls_over n.result.rollover).one_word k), omega (arith, n.ensures.number_value, number_most n.result.rollover k), ) in
+    let counted : (c.number_line-numbered.result.number ≤ 65535) × (c.number_line-numbered.result.number ≤ c.runs.k + 1) = let n = c.number_line-numbered in let k = c.runs.k in (omega (arith, n.ensures.number_value, (rolls_over n.result.rollover).one_word k), omega (arith, n.ensures.number_value, number_most n.result.rollover k)) in
     let within : (c.loop-k.k < c.args.l.nol) × (c.loop-k.k + 1 - before ≤ 65535) = omega (arith, typed, ends_by, c.loop-k-test.true, counted) in
     let room : let w = width in c.loop-k.k * w + w ≤ length c.loop-k.pixels = let l = c.loop-k in subst⁻¹ (λ (w : ℕ). l.k * w + w ≤ length l.pixels) width_is (row_fits raster (as_bytes c.args.l.ppl) c.args.pixels.now c.args.marks.now l.pixels l.marks (good_chain l.at l.k c.number_line-numbered.result.rollover) l.k lines within.0 c.requires) in
     omega (arith, room, lines.pixels-length)
@@ -149,7 +142,7 @@ overflow_add-to c =
     let end : ℕ = c.lesser-end.result in
     let before : ℕ = c.runs.k + 1 - c.number_line-numbered.result.number in
     let ends_by : (end ≤ before + 65535) × (end ≤ c.if-l-eq2.n) = let e = c.lesser-end.ensures in omega arith in
-    let counted : (c.number_line-numbered.result.number ≤ 65535) × (c.number_line-numbered.result.number ≤ c.runs.k + 1) = let n = c.number_line-numbered in let k = c.runs.k in ( omega (arith, n.ensures.number_value, (rolls_over n.result.rollover).one_word k), omega (arith, n.ensures.number_value, number_most n.result.rollover k), ) in
+    let counted : (c.number_line-numbered.result.number ≤ 65535) × (c.number_line-numbered.result.number ≤ c.runs.k + 1) = let n = c.number_line-numbered in let k = c.runs.k in (omega (arith, n.ensures.number_value, (rolls_over n.result.rollover).one_word k), omega (arith, n.ensures.number_value, number_most n.result.rollover k)) in
     let within : (c.loop-k.k < c.args.l.nol) × (c.loop-k.k + 1 - before ≤ 65535) = omega (arith, typed, ends_by, c.loop-k-test.true, counted) in
     let room : let w = width in c.loop-k.k * w + w ≤ length c.loop-k.pixels = let l = c.loop-k in subst⁻¹ (λ (w : ℕ). l.k * w + w ≤ length l.pixels) width_is (row_fits raster (as_bytes c.args.l.ppl) c.args.pixels.now c.args.marks.now l.pixels l.marks (good_chain l.at l.k c.number_line-numbered.result.rollover) l.k lines within.0 c.requires) in
     omega (arith, room, lines.pixels-length)
@@ -168,7 +161,7 @@ overflow_add-a c =
     let line-within : c.loop-k.at ≤ length c.args.bytes.now = omega (arith, lines.chain.at, start_within raster c.requires.starts c.loop-k.k) in
     let body_at : ℕ = c.body_start-start.result in
     let start_is : body_at ≡ body_start c.args.l.scn = c.body_start-start.ensures in
-    let ends : (c.loop-k.at + size ≤ length c.args.bytes.now) × (body_at + c.args.l.ppl ≤ size) = let bytes = c.args.bytes.now in ( omega (arith, size_is, line.within, ap length (rest_is bytes c.loop-k.at), length-drop c.loop-k.at bytes, line-within), omega (arith, size_is, start_is, line.body), ) in
+    let ends : (c.loop-k.at + size ≤ length c.args.bytes.now) × (body_at + c.args.l.ppl ≤ size) = let bytes = c.args.bytes.now in (omega (arith, size_is, line.within, ap length (rest_is bytes c.loop-k.at), length-drop c.loop-k.at bytes, line-within), omega (arith, size_is, start_is, line.body)) in
     omega (arith, ends)
 
 pub overflow_add-b : goal.overflow_add-b
@@ -185,7 +178,7 @@ overflow_add-b c =
     let line-within : c.loop-k.at ≤ length c.args.bytes.now = omega (arith, lines.chain.at, start_within raster c.requires.starts c.loop-k.k) in
     let body_at : ℕ = c.body_start-start.result in
     let start_is : body_at ≡ body_start c.args.l.scn = c.body_start-start.ensures in
-    let ends : (c.loop-k.at + size ≤ length c.args.bytes.now) × (body_at + c.args.l.ppl ≤ size) = let bytes = c.args.bytes.now in ( omega (arith, size_is, line.within, ap length (rest_is bytes c.loop-k.at), length-drop c.loop-k.at bytes, line-within), omega (arith, size_is, start_is, line.body), ) in
+    let ends : (c.loop-k.at + size ≤ length c.args.bytes.now) × (body_at + c.args.l.ppl ≤ size) = let bytes = c.args.bytes.now in (omega (arith, size_is, line.within, ap length (rest_is bytes c.loop-k.at), length-drop c.loop-k.at bytes, line-within), omega (arith, size_is, start_is, line.body)) in
     omega (arith, ends)
 
 pub slice_bounds-widen_words-start : goal.slice_bounds-widen_words-start
@@ -202,7 +195,7 @@ slice_bounds-widen_words-start c =
     let line-within : c.loop-k.at ≤ length c.args.bytes.now = omega (arith, lines.chain.at, start_within raster c.requires.starts c.loop-k.k) in
     let body_at : ℕ = c.body_start-start.result in
     let start_is : body_at ≡ body_start c.args.l.scn = c.body_start-start.ensures in
-    let ends : (c.loop-k.at + size ≤ length c.args.bytes.now) × (body_at + c.args.l.ppl ≤ size) = let bytes = c.args.bytes.now in ( omega (arith, size_is, line.within, ap length (rest_is bytes c.loop-k.at), length-drop c.loop-k.at bytes, line-within), omega (arith, size_is, start_is, line.body), ) in
+    let ends : (c.loop-k.at + size ≤ length c.args.bytes.now) × (body_at + c.args.l.ppl ≤ size) = let bytes = c.args.bytes.now in (omega (arith, size_is, line.within, ap length (rest_is bytes c.loop-k.at), length-drop c.loop-k.at bytes, line-within), omega (arith, size_is, start_is, line.body)) in
     omega (arith, ends)
 
 pub slice_bounds-widen_words-end : goal.slice_bounds-widen_words-end
@@ -219,7 +212,7 @@ slice_bounds-widen_words-end c =
     let line-within : c.loop-k.at ≤ length c.args.bytes.now = omega (arith, lines.chain.at, start_within raster c.requires.starts c.loop-k.k) in
     let body_at : ℕ = c.body_start-start.result in
     let start_is : body_at ≡ body_start c.args.l.scn = c.body_start-start.ensures in
-    let ends : (c.loop-k.at + size ≤ length c.args.bytes.now) × (body_at + c.args.l.ppl ≤ size) = let bytes = c.args.bytes.now in ( omega (arith, size_is, line.within, ap length (rest_is bytes c.loop-k.at), length-drop c.loop-k.at bytes, line-within), omega (arith, size_is, start_is, line.body), ) in
+    let ends : (c.loop-k.at + size ≤ length c.args.bytes.now) × (body_at + c.args.l.ppl ≤ size) = let bytes = c.args.bytes.now in (omega (arith, size_is, line.within, ap length (rest_is bytes c.loop-k.at), length-drop c.loop-k.at bytes, line-within), omega (arith, size_is, start_is, line.body)) in
     omega (arith, ends)
 
 pub slice_bounds-widen_words-start-in-loop-k : goal.slice_bounds-widen_words-start-in-loop-k
@@ -234,7 +227,7 @@ slice_bounds-widen_words-start-in-loop-k c =
     let end : ℕ = c.lesser-end.result in
     let before : ℕ = c.runs.k + 1 - c.number_line-numbered.result.number in
     let ends_by : (end ≤ before + 65535) × (end ≤ c.if-l-eq2.n) = let e = c.lesser-end.ensures in omega arith in
-    let counted : (c.number_line-numbered.result.number ≤ 65535) × (c.number_line-numbered.result.number ≤ c.runs.k + 1) = let n = c.number_line-numbered in let k = c.runs.k in ( omega (arith, n.ensures.number_value, (rolls_over n.result.rollover).one_word k), omega (arith, n.ensures.number_value, number_most n.result.rollover k), ) in
+    let counted : (c.number_line-numbered.result.number ≤ 65535) × (c.number_line-numbered.result.number ≤ c.runs.k + 1) = let n = c.number_line-numbered in let k = c.runs.k in (omega (arith, n.ensures.number_value, (rolls_over n.result.rollover).one_word k), omega (arith, n.ensures.number_value, number_most n.result.rollover k)) in
     let within : (c.loop-k.k < c.args.l.nol) × (c.loop-k.k + 1 - before ≤ 65535) = omega (arith, typed, ends_by, c.loop-k-test.true, counted) in
     let room : let w = width in c.loop-k.k * w + w ≤ length c.loop-k.pixels = let l = c.loop-k in subst⁻¹ (λ (w : ℕ). l.k * w + w ≤ length l.pixels) width_is (row_fits raster (as_bytes c.args.l.ppl) c.args.pixels.now c.args.marks.now l.pixels l.marks (good_chain l.at l.k c.number_line-numbered.result.rollover) l.k lines within.0 c.requires) in
     omega (arith, room)
@@ -251,7 +244,7 @@ slice_bounds-widen_words-end-in-loop-k c =
     let end : ℕ = c.lesser-end.result in
     let before : ℕ = c.runs.k + 1 - c.number_line-numbered.result.number in
     let ends_by : (end ≤ before + 65535) × (end ≤ c.if-l-eq2.n) = let e = c.lesser-end.ensures in omega arith in
-    let counted : (c.number_line-numbered.result.number ≤ 65535) × (c.number_line-numbered.result.number ≤ c.runs.k + 1) = let n = c.number_line-numbered in let k = c.runs.k in ( omega (arith, n.ensures.number_value, (rolls_over n.result.rollover).one_word k), omega (arith, n.ensures.number_value, number_most n.result.rollover k), ) in
+    let counted : (c.number_line-numbered.result.number ≤ 65535) × (c.number_line-numbered.result.number ≤ c.runs.k + 1) = let n = c.number_line-numbered in let k = c.runs.k in (omega (arith, n.ensures.number_value, (rolls_over n.result.rollover).one_word k), omega (arith, n.ensures.number_value, number_most n.result.rollover k)) in
     let within : (c.loop-k.k < c.args.l.nol) × (c.loop-k.k + 1 - before ≤ 65535) = omega (arith, typed, ends_by, c.loop-k-test.true, counted) in
     let room : let w = width in c.loop-k.k * w + w ≤ length c.loop-k.pixels = let l = c.loop-k in subst⁻¹ (λ (w : ℕ). l.k * w + w ≤ length l.pixels) width_is (row_fits raster (as_bytes c.args.l.ppl) c.args.pixels.now c.args.marks.now l.pixels l.marks (good_chain l.at l.k c.number_line-numbered.result.rollover) l.k lines within.0 c.requires) in
     omega (arith, room)
@@ -262,7 +255,7 @@ bounds-marks-k c =
     let end : ℕ = c.lesser-end.result in
     let before : ℕ = c.runs.k + 1 - c.number_line-numbered.result.number in
     let ends_by : (end ≤ before + 65535) × (end ≤ c.if-l-eq2.n) = let e = c.lesser-end.ensures in omega arith in
-    let counted : (c.number_line-numbered.result.number ≤ 65535) × (c.number_line-numbered.result.number ≤ c.runs.k + 1) = let n = c.number_line-numbered in let k = c.runs.k in ( omega (arith, n.ensures.number_value, (rolls_over n.result.rollover).one_word k), omega (arith, n.ensures.number_value, number_most n.result.rollover k), ) in
+    let counted : (c.number_line-numbered.result.number ≤ 65535) × (c.number_line-numbered.result.number ≤ c.runs.k + 1) = let n = c.number_line-numbered in let k = c.runs.k in (omega (arith, n.ensures.number_value, (rolls_over n.result.rollover).one_word k), omega (arith, n.ensures.number_value, number_most n.result.rollover k)) in
     let within : (c.loop-k.k < c.args.l.nol) × (c.loop-k.k + 1 - before ≤ 65535) = omega (arith, typed, ends_by, c.loop-k-test.true, counted) in
     let raster : Raster = raster_of c.args.l c.args.bytes.now in
     let come : reached raster c.runs.k ≡ true = not-false (reached raster c.runs.k) (sym c.runs.invariant.chain.lost) in
@@ -284,7 +277,7 @@ overflow_add-at c =
     let line-within : c.loop-k.at ≤ length c.args.bytes.now = omega (arith, lines.chain.at, start_within raster c.requires.starts c.loop-k.k) in
     let body_at : ℕ = c.body_start-start.result in
     let start_is : body_at ≡ body_start c.args.l.scn = c.body_start-start.ensures in
-    let ends : (c.loop-k.at + size ≤ length c.args.bytes.now) × (body_at + c.args.l.ppl ≤ size) = let bytes = c.args.bytes.now in ( omega (arith, size_is, line.within, ap length (rest_is bytes c.loop-k.at), length-drop c.loop-k.at bytes, line-within), omega (arith, size_is, start_is, line.body), ) in
+    let ends : (c.loop-k.at + size ≤ length c.args.bytes.now) × (body_at + c.args.l.ppl ≤ size) = let bytes = c.args.bytes.now in (omega (arith, size_is, line.within, ap length (rest_is bytes c.loop-k.at), length-drop c.loop-k.at bytes, line-within), omega (arith, size_is, start_is, line.body)) in
     omega (arith, ends)
 
 pub overflow_add-k-in-loop-k : goal.overflow_add-k-in-loop-k
@@ -293,7 +286,7 @@ overflow_add-k-in-loop-k c =
     let end : ℕ = c.lesser-end.result in
     let before : ℕ = c.runs.k + 1 - c.number_line-numbered.result.number in
     let ends_by : (end ≤ before + 65535) × (end ≤ c.if-l-eq2.n) = let e = c.lesser-end.ensures in omega arith in
-    let counted : (c.number_line-numbered.result.number ≤ 65535) × (c.number_line-numbered.result.number ≤ c.runs.k + 1) = let n = c.number_line-numbered in let k = c.runs.k in ( omega (arith, n.ensures.number_value, (rolls_over n.result.rollover).one_word k), omega (arith, n.ensures.number_value, number_most n.result.rollover k), ) in
+    let counted : (c.number_line-numbered.result.number ≤ 65535) × (c.number_line-numbered.result.number ≤ c.runs.k + 1) = let n = c.number_line-numbered in let k = c.runs.k in (omega (arith, n.ensures.number_value, (rolls_over n.result.rollover).one_word k), omega (arith, n.ensures.number_value, number_most n.result.rollover k)) in
     let within : (c.loop-k.k < c.args.l.nol) × (c.loop-k.k + 1 - before ≤ 65535) = omega (arith, typed, ends_by, c.loop-k-test.true, counted) in
     omega (arith, within, c.requires.nol_most)
 
@@ -307,9 +300,9 @@ loop-k-preserved c =
     let end : ℕ = c.lesser-end.result in
     let before : ℕ = c.runs.k + 1 - c.number_line-numbered.result.number in
     let ends_by : (end ≤ before + 65535) × (end ≤ c.if-l-eq2.n) = let e = c.lesser-end.ensures in omega arith in
-    let counted : (c.number_line-numbered.result.number ≤ 65535) × (c.number_line-numbered.result.number ≤ c.runs.k + 1) = let n = c.number_line-numbered in let k = c.runs.k in ( omega (arith, n.ensures.number_value, (rolls_over n.result.rollover).one_word k), omega (arith, n.ensures.number_value, number_most n.result.rollover k), ) in
+    let counted : (c.number_line-numbered.result.number ≤ 65535) × (c.number_line-numbered.result.number ≤ c.runs.k + 1) = let n = c.number_line-numbered in let k = c.runs.k in (omega (arith, n.ensures.number_value, (rolls_over n.result.rollover).one_word k), omega (arith, n.ensures.number_value, number_most n.result.rollover k)) in
     let within : (c.loop-k.k < c.args.l.nol) × (c.loop-k.k + 1 - before ≤ 65535) = omega (arith, typed, ends_by, c.loop-k-test.true, counted) in
-    let fits-too : (pixels₁ marks₁ : List ℕ) → let l = c.runs in let a = c.args in LinesAt raster (as_bytes a.l.ppl) pixels₁ marks₁ l.pixels l.marks (good_chain l.at l.k c.number_line-numbered.result.rollover) l.k → Fits raster (word_bytes a.l.ppl) (length pixels₁) (length marks₁) = λ pixels₁ marks₁ read. let x = c.runs.invariant in let p = c.requires in record { starts = p.starts; nol_most = p.nol_most; pixels_fit = omega (arith, p.pixels_fit, x.pixels-length, read.pixels-length); marks_fit = omega (arith, p.marks_fit, x.marks_length, read.marks_length); } in
+    let fits-too : (pixels₁ marks₁ : List ℕ) → let l = c.runs in let a = c.args in LinesAt raster (as_bytes a.l.ppl) pixels₁ marks₁ l.pixels l.marks (good_chain l.at l.k c.number_line-numbered.result.rollover) l.k → Fits raster (word_bytes a.l.ppl) (length pixels₁) (length marks₁) = λ pixels₁ marks₁ read. let x = c.runs.invariant in let p = c.requires in record { starts = p.starts; nol_most = p.nol_most; pixels_fit = omega (arith, p.pixels_fit, x.pixels-length, read.pixels-length); marks_fit = omega (arith, p.marks_fit, x.marks_length, read.marks_length) } in
     let come : reached raster c.runs.k ≡ true = not-false (reached raster c.runs.k) (sym c.runs.invariant.chain.lost) in
     let there : let bytes = c.args.bytes.now in let at = c.runs.at in take (length bytes - at) (drop at bytes) ≡ from raster (start raster c.runs.k) = rest_is c.args.bytes.now c.runs.at ∙ ap (from raster) c.runs.invariant.chain.at in
     let number_is : c.loop-k.k + 1 - before ≡ number_of raster c.loop-k.k = let l = c.runs in let n = c.number_line-numbered in run-number raster l.k l.rollover l.invariant.chain.rollover come there n.ensures.rollover_value n.ensures.number_value refl ends_by.0 c.loop-k.k c.loop-k.invariant.0 c.loop-k-test.true in
@@ -340,15 +333,16 @@ overflow_cast-result c =
     let x = c.runs-test in
     let come : reached r l.k ≡ true = not-false (reached r l.k) (sym l.invariant.chain.lost) in
     let there : take (length a.bytes.now - l.at) (drop l.at a.bytes.now) ≡ from r (start r l.k) =
-      rest_is a.bytes.now l.at ∙ ap (from r) l.invariant.chain.at in
+    rest_is a.bytes.now l.at ∙ ap (from r) l.invariant.chain.at in
     let left : LinesAt r (as_bytes a.l.ppl) a.pixels.now a.marks.now x.pixels x.marks (good_chain x.at x.k x.rollover) x.k =
-      elim c.runs-test.branch
-      [ else-runs-test w ↦ same_lines r a.pixels.now a.marks.now w.pixels-is w.marks-is w.at-is w.rollover-is w.k-is l.invariant
+    elim c.runs-test.branch [
+      | else-runs-test w ↦ same_lines r a.pixels.now a.marks.now w.pixels-is w.marks-is w.at-is w.rollover-is w.k-is l.invariant
       | then-runs-test+then-loop-k-test+then-not-is_regular w ↦
           same_lines r a.pixels.now a.marks.now w.pixels-is w.marks-is w.at-is w.rollover-is w.k-is
           (w.loop-k.invariant.1 a.pixels.now a.marks.now
           (renumbered r a.pixels.now a.marks.now l.pixels l.marks l.at l.k l.rollover w.number_line-numbered.result.rollover
-          (known_here r l.k l.rollover l.invariant.chain.rollover come there w.number_line-numbered.ensures.rollover_value) l.invariant)) ] in
+          (known_here r l.k l.rollover l.invariant.chain.rollover come there w.number_line-numbered.ensures.rollover_value) l.invariant))
+    ] in
     omega (arith, left.low, c.requires.nol_most)
 
 pub returns : goal.returns
@@ -359,13 +353,14 @@ returns c =
     let x = c.runs-test in
     let come : reached r l.k ≡ true = not-false (reached r l.k) (sym l.invariant.chain.lost) in
     let there : take (length a.bytes.now - l.at) (drop l.at a.bytes.now) ≡ from r (start r l.k) =
-      rest_is a.bytes.now l.at ∙ ap (from r) l.invariant.chain.at in
+    rest_is a.bytes.now l.at ∙ ap (from r) l.invariant.chain.at in
     let left : LinesAt r (as_bytes a.l.ppl) a.pixels.now a.marks.now x.pixels x.marks (good_chain x.at x.k x.rollover) x.k =
-      elim c.runs-test.branch
-      [ else-runs-test w ↦ same_lines r a.pixels.now a.marks.now w.pixels-is w.marks-is w.at-is w.rollover-is w.k-is l.invariant
+    elim c.runs-test.branch [
+      | else-runs-test w ↦ same_lines r a.pixels.now a.marks.now w.pixels-is w.marks-is w.at-is w.rollover-is w.k-is l.invariant
       | then-runs-test+then-loop-k-test+then-not-is_regular w ↦
           same_lines r a.pixels.now a.marks.now w.pixels-is w.marks-is w.at-is w.rollover-is w.k-is
           (w.loop-k.invariant.1 a.pixels.now a.marks.now
           (renumbered r a.pixels.now a.marks.now l.pixels l.marks l.at l.k l.rollover w.number_line-numbered.result.rollover
-          (known_here r l.k l.rollover l.invariant.chain.rollover come there w.number_line-numbered.ensures.rollover_value) l.invariant)) ] in
+          (known_here r l.k l.rollover l.invariant.chain.rollover come there w.number_line-numbered.ensures.rollover_value) l.invariant))
+    ] in
     left

@@ -1,24 +1,7 @@
-use Rattle.std.proofs.Common.{ℕ, suc, ◌+◌, ◌-◌, ◌*◌, ◌≤◌, ◌<◌, true, false, List, ⊎_elim, ◌≡◌, refl, sym, ◌∙◌, ap, arith, length, take, drop, set, length-drop, drop-drop, rules}
-use mathlib.Core.Path.{subst⁻¹}
-use borrow.Author.Tests.{not-false}
-use borrow.Rule.Slice.PartMut.{mid_of, put_mid}
-use Rattle.units.specs.Counts.{word_bytes}
-use Rattle.units.specs.Over.{over}
-use Rattle.units.specs.Words.{words_to_bytes}
-use Rattle.units.proofs.Laws.Parts.{rest_is}
-use Rattle.numbering.proofs.Laws.Numbering.{rolls_over, number_most}
-use Rattle.layout.specs.Chain.{Raster, raster_of, from, start, reached, number_of}
-use Rattle.layout.specs.Scanline.{step_of, reading_of}
-use Rattle.layout.proofs.Laws.Chain.{start_within}
-use Rattle.layout.proofs.Laws.Line.{length-row}
-use Rattle.layout.proofs.Laws.Numbering.{RolloverKnown, known_here, run-number, run_known}
-use Rattle.scan_scanline.specs.Answer.{IsScan, body_start}
-use Rattle.scan_scanline.specs.Regular.{regular_size, is_regular}
-use Rattle.scan_scanline.proofs.Laws.Regular.{good_scan, Regular, regular}
-use Rattle.decode_raster.specs.declared.Chain.{Chain}
-use Rattle.decode_raster.specs.Laws.Answer.{as_bytes, Fits, Stepped}
-use Rattle.decode_raster.proofs.Laws.Steps.{step_on, bytes_full}
-use Rattle.decode_raster.proofs.Laws.Lines.{LinesAt, lines_first, row_fits, lent_length, lines_next}
+use Rattle.std.proofs.Common.{ℕ, ◌-◌, ◌≤◌, List}
+use Rattle.layout.specs.Chain.{raster_of}
+use Rattle.decode_raster.specs.Laws.Answer.{as_bytes}
+use Rattle.decode_raster.proofs.Laws.Lines.{LinesAt}
 use Rattle.decode_raster_bytes.proofs.Laws.Regular.{good_chain}
 use Rattle.decode_raster_bytes.proofs.read_regular.Given as goal
 

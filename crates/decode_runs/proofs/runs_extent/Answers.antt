@@ -1,8 +1,6 @@
-use Rattle.std.proofs.Common.{eqb, ◌⊎◌, inl, inr, ⊎_elim, true, false, not, ap, rules, length, drop, arith, ◌-◌, ◌≤◌, zero-le, ◌≡◌, refl, sym, ◌∙◌}
+use Rattle.std.proofs.Common.{eqb, ◌⊎◌, inl, inr, ⊎_elim, true, false, not, ap, ◌-◌, zero-le, ◌≡◌, refl, sym, ◌∙◌}
 use Rattle.std.proofs.Common.{ne_eqb, eq-eqb}
 use Rattle.codec.proofs.Laws.RunReading.{level, extent_none, extent_above, extent_last, extent_next}
-use Rattle.codec.specs.RunPixels.{runs_from, run_extent}
-use Rattle.units.specs.Words.{words}
 use Rattle.decode_runs.proofs.runs_extent.Goals as goal
 
 pub loop-i-init : goal.loop-i-init

@@ -1,6 +1,5 @@
-use Rattle.std.proofs.Common.{eqb, ◌⊎◌, inl, inr, ⊎_elim, true, false, rules, length, drop, arith, ◌-◌, ◌≤◌, zero-le, ◌≡◌, refl, sym, ◌∙◌}
-use borrow.Author.Tests.{not-false}
-use Rattle.codec.proofs.Laws.RunReading.{level, extent_none, extent_above, extent_last, extent_next}
+use Rattle.std.proofs.Common.{length, drop, ◌-◌, ◌≤◌, ◌≡◌}
+use Rattle.codec.proofs.Laws.RunReading.{level}
 use Rattle.codec.specs.RunPixels.{runs_from, run_extent}
 use Rattle.units.specs.Words.{words}
 use Rattle.decode_runs.proofs.runs_extent.Given as goal

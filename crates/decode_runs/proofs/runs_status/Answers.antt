@@ -1,7 +1,6 @@
-use Rattle.std.proofs.Common.{rules, length, drop, arith, ◌+◌, ◌%◌, ◌-◌, ◌≤◌, zero-le, ◌≡◌, refl, sym}
+use Rattle.std.proofs.Common.{arith, ◌%◌, zero-le, ◌≡◌, refl, sym}
 use Rattle.codec.proofs.Laws.RunReading.{total_step, total_none, status_even, status_above, status_below, status_good}
-use Rattle.codec.specs.RunPixels.{run_total}
-use Rattle.units.specs.Words.{words, word_count}
+use Rattle.units.specs.Words.{word_count}
 use Rattle.decode_runs.proofs.runs_status.Goals as goal
 
 pub returns-then-word_count-eq0 : goal.returns-then-word_count-eq0

@@ -1,4 +1,4 @@
-use Rattle.std.proofs.Common.{ℕ, ◌+◌, ◌-◌, ◌≤◌, arith, ◌≡◌, sym, length, length-take-le, rules}
+use Rattle.std.proofs.Common.{ℕ, ◌+◌, ◌-◌, ◌≤◌, arith, ◌≡◌, sym, length, length-take-le}
 use Rattle.units.specs.Counts.{word_bytes}
 use Rattle.codec.specs.Table.{body_pixels}
 use Rattle.decode_scanline.proofs.Laws.Partway.{bytes_painted, whole_painted}

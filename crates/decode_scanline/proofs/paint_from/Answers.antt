@@ -1,4 +1,4 @@
-use Rattle.std.proofs.Common.{ℕ, arith, sym, length-take-le, rules}
+use Rattle.std.proofs.Common.{ℕ, arith, sym, length-take-le}
 use Rattle.codec.specs.Table.{body_pixels}
 use Rattle.decode_scanline.proofs.Laws.Partway.{tail_painted}
 use Rattle.decode_scanline.proofs.paint_from.Goals as goal

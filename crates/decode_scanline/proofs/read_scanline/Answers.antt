@@ -1,4 +1,4 @@
-use Rattle.std.proofs.Common.{arith, refl, sym, ◌∙◌, length, rules}
+use Rattle.std.proofs.Common.{arith, refl, sym, ◌∙◌, length}
 use Rattle.layout.proofs.Laws.Line.{used_within}
 use Rattle.scan_scanline.proofs.Laws.Body.{GoodBody, blank-line, good_line}
 use Rattle.decode_scanline.proofs.Laws.Painted.{painted_line}

@@ -1,4 +1,4 @@
-use Rattle.std.proofs.Common.{ℕ, ◌≤◌, arith, ◌≡◌, sym, ◌∙◌, ap, subst, List, ◌++◌, length, drop, length-take-le, rules}
+use Rattle.std.proofs.Common.{ℕ, ◌≤◌, arith, ◌≡◌, sym, ◌∙◌, ap, subst, List, ◌++◌, length, drop, length-take-le}
 use Rattle.units.specs.Counts.{word_bytes}
 use Rattle.units.specs.Over.{over, zeros}
 use Rattle.units.specs.Words.{word_count, words_to_bytes}

@@ -1,4 +1,4 @@
-use Rattle.std.proofs.Common.{◌≡◌, sym, ◌∙◌, ap, false, ◌&&◌, eqb, rules, lt-ltb, le-ltb}
+use Rattle.std.proofs.Common.{◌≡◌, sym, ◌∙◌, ap, false, ◌&&◌, eqb, lt-ltb, le-ltb}
 use Rattle.encode_answer.specs.Answer.{write_numbers}
 use Rattle.encode_answer.proofs.answer_by_size.Goals as goal
 

@@ -1,4 +1,3 @@
-use Rattle.std.proofs.Common.{rules}
 use Rattle.encode_answer.proofs.or_long.Goals as goal
 
 pub returns : goal.returns

@@ -1,4 +1,3 @@
-use Rattle.std.proofs.Common.{rules}
 use Rattle.codec.specs.Table.{codec_of}
 use Rattle.codec.proofs.Laws.Table.{no_codec_lem}
 use Rattle.encode_body.proofs.Laws.ByType.{no_body}

@@ -1,15 +1,12 @@
 -- The header as stores over zeros, and what stands in the output after them.
-use Rattle.std.specs.Prelude.{ℕ, ◌-◌, ◌≤◌, ◌<◌, Bool, true, false, cond, List, [], ◌∷◌, ◌++◌, ◌≡◌, refl, length, take, drop, set, eqb}
+use Rattle.std.specs.Prelude.{ℕ, ◌-◌, ◌≤◌, ◌<◌, Bool, true, false, cond, List, ◌++◌, ◌≡◌, refl, length, take, drop, eqb}
 use Rattle.std.proofs.Common.{append_assoc, sym, ap, ◌∙◌, arith, length-take-le, lt-ltb, le-ltb}
 use Rattle.std.proofs.lemmas.List.{replicate-append-replicate}
-use Rattle.std.proofs.lemmas.List.Edits.{sets}
 use borrow.Rule.Slice.PartMut.{mid_of, put_mid}
 use Rattle.units.specs.Counts.{words_of_blocks}
-use Rattle.units.specs.LittleEndian.{u16_bytes, u32_bytes}
 use Rattle.units.specs.Over.{over, zeros}
 use Rattle.units.proofs.Laws.Parts.{tail_is, put_tail}
 use Rattle.encode_header.specs.declared.Job.{Job}
-use Rattle.encode_header.specs.Picture.{Picture}
 use Rattle.encode_header.specs.Header.{ctv_of, blocks_of, table_area, header_bytes, header_size}
 use Rattle.encode_header.specs.Job.{picture_of, header_over}
 use Rattle.encode_header.proofs.Laws.Positions.{length-header, area_put}

@@ -1,6 +1,6 @@
 -- The length of a header and its table area; and every field at the paper's byte: the header is the entries of the table of
 -- positions, stored over zeros.
-use Rattle.std.specs.Prelude.{ℕ, zero, suc, ◌+◌, ◌*◌, ◌≤◌, ◌<◌, ◌≡◌, refl, cond, List, [], ◌∷◌, ◌++◌, length, get_or, take, drop, eqb}
+use Rattle.std.specs.Prelude.{ℕ, zero, suc, ◌+◌, ◌*◌, ◌<◌, ◌≡◌, refl, cond, List, [], ◌∷◌, ◌++◌, length, get_or, take, drop, eqb}
 use Rattle.std.proofs.Common.{sym, ◌∙◌, ap, append_assoc, arith, length-append, drop_at, eq-eqb, ne_eqb}
 use Rattle.std.proofs.lemmas.List.{length-replicate, get_or-replicate, replicate-append-replicate}
 use Rattle.std.proofs.Math.ListN.{get_or-append}
@@ -12,7 +12,7 @@ use Rattle.units.specs.Over.{over, zeros}
 use Rattle.units.proofs.Laws.Over.{over_nil, over_fits, sets_part, sets_misses}
 use Rattle.encode_header.specs.Picture.{Picture}
 use Rattle.encode_header.specs.Header.{one_float, blocks_of, table_area, header_bytes, header_size}
-use Rattle.encode_header.specs.Positions.{Entry, positions, Every, Stands, Misses, FieldsInPlace, AllFieldsInPlace}
+use Rattle.encode_header.specs.Positions.{Entry, positions, Every, Stands, Misses, AllFieldsInPlace}
 
 pub length-header : (i : Picture) → length (header_bytes i) ≡ (header_size i.table).0
 length-header i = omega arith

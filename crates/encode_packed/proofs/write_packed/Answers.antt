@@ -1,12 +1,10 @@
-use Rattle.std.proofs.Common.{List, ⊎_elim, ltb-true, ltb-false, length, drop, ℕ, ◌-◌, ◌≡◌, refl, sym, ◌∙◌, ap, rules, arith}
+use Rattle.std.proofs.Common.{List, ltb-true, length, drop, ℕ, ◌≡◌, refl, sym, ◌∙◌, ap, arith}
 use Rattle.units.proofs.Laws.Parts.{rest_is}
 use Rattle.units.specs.Words.{two_bytes}
 use Rattle.packing.specs.Packing.{number}
 use lib.Seq.{sets, length-sets}
-use Rattle.units.specs.Over.{over}
 use Rattle.units.proofs.Laws.Over.{sets_over, sets_past}
 use Rattle.packing.proofs.Laws.Writing.{body_from, length-body, body_next, body_end}
-use Rattle.codec.specs.PackedPixels.{packed_body}
 use Rattle.encode_packed.proofs.write_packed.Goals as goal
 use Rattle.encode_packed.proofs.write_packed.Goals.{then-loop-at-test+else-to-out, else-loop-at-test}
 

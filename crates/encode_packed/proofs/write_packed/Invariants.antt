@@ -1,11 +1,7 @@
-use Rattle.std.proofs.Common.{List, ⊎_elim, ltb-true, ltb-false, length, drop, ℕ, ◌-◌, ◌≡◌, refl, sym, ◌∙◌, ap, rules, arith}
-use Rattle.units.proofs.Laws.Parts.{rest_is}
-use Rattle.units.specs.Words.{two_bytes}
-use Rattle.packing.specs.Packing.{number}
-use lib.Seq.{sets, length-sets}
+use Rattle.std.proofs.Common.{length, ◌-◌, ◌≡◌}
+use lib.Seq.{sets}
 use Rattle.units.specs.Over.{over}
-use Rattle.units.proofs.Laws.Over.{sets_over, sets_past}
-use Rattle.packing.proofs.Laws.Writing.{body_from, length-body, body_next, body_end}
+use Rattle.packing.proofs.Laws.Writing.{body_from}
 use Rattle.codec.specs.PackedPixels.{packed_body}
 use Rattle.encode_packed.proofs.write_packed.Given as goal
 

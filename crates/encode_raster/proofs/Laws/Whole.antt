@@ -1,5 +1,5 @@
 -- The whole call: what a rejected one answers and leaves, and what one that is not has room for, answers and leaves.
-use Rattle.std.specs.Prelude.{◌≡◌, ℕ, ◌+◌, ◌-◌, ◌≤◌, Bool, true, false, cond, List, ◌++◌, length, drop, ◌≢◌, nat_lt}
+use Rattle.std.specs.Prelude.{◌≡◌, ℕ, ◌+◌, ◌-◌, ◌≤◌, Bool, cond, List, ◌++◌, length, drop, ◌≢◌, nat_lt}
 use Rattle.std.proofs.Math.Path.{sym, ap}
 use Rattle.std.proofs.Common.{◌∙◌, arith, length-append, length-drop, eq-eqb, ne_eqb, le-ltb, ltb-false}
 use borrow.Rule.Slice.PartMut.{mid_of, put_mid}

@@ -1,5 +1,5 @@
-use Rattle.std.proofs.Common.{◌+◌, ◌-◌, ◌*◌, ◌^◌, ◌<◌, ◌≤◌, length, arith, rules}
-use Rattle.encode_raster.proofs.Laws.Measuring.{MeasuredAt, measure_first, measure_next, measure_fits, measure_done}
+use Rattle.std.proofs.Common.{◌+◌, ◌*◌, ◌^◌, ◌<◌, ◌≤◌, length, arith}
+use Rattle.encode_raster.proofs.Laws.Measuring.{measure_first, measure_next, measure_fits, measure_done}
 use Rattle.units.proofs.Laws.Parts.{row_within}
 use Rattle.encode_raster.specs.Laws.Answer.{bare}
 use Rattle.encode_raster.proofs.measure_lines.Goals as goal

@@ -1,4 +1,4 @@
-use Rattle.std.proofs.Common.{arith, rules}
+use Rattle.std.proofs.Common.{arith}
 use Rattle.encode_raster.proofs.Laws.Bounds.{lines_most}
 use Rattle.encode_raster.specs.Laws.Answer.{bare}
 use Rattle.encode_raster.proofs.Laws.Plan.{plan_26, plan_sizes}

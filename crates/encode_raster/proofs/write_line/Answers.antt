@@ -1,4 +1,4 @@
-use Rattle.std.proofs.Common.{◌+◌, ◌≤◌, length, arith, rules}
+use Rattle.std.proofs.Common.{◌+◌, ◌≤◌, length, arith}
 use Rattle.codec.specs.Table.{body_bytes}
 use Rattle.encode_raster.proofs.Laws.Line.{line_open, headed_room, line-headed}
 use Rattle.encode_raster.proofs.write_line.Goals as goal

@@ -1,8 +1,7 @@
-use Rattle.std.proofs.Common.{◌≡◌, ℕ, ◌+◌, ◌-◌, ◌*◌, ◌%◌, ◌≤◌, length, sym, ap, ◌∙◌, arith, rules}
+use Rattle.std.proofs.Common.{ℕ, ◌+◌, ◌*◌, ◌%◌, ◌≤◌, length, sym, ap, ◌∙◌, arith}
 use Rattle.units.proofs.Laws.Parts.{row_within}
-use Rattle.numbering.specs.Numbering.{written_number}
 use Rattle.numbering.proofs.Laws.Numbering.{written-first, written_next}
-use Rattle.encode_raster.proofs.Laws.Lines.{LinesAt, Turn, lines_first, turn, lines_done}
+use Rattle.encode_raster.proofs.Laws.Lines.{Turn, lines_first, turn, lines_done}
 use Rattle.encode_raster.specs.Laws.Answer.{bare}
 use Rattle.encode_raster.proofs.write_lines.Goals as goal
 

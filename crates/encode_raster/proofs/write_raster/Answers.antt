@@ -1,4 +1,4 @@
-use Rattle.std.proofs.Common.{length, arith, rules}
+use Rattle.std.proofs.Common.{length, arith}
 use Rattle.codec.proofs.Laws.Table.{type_most}
 use Rattle.encode_header.specs.declared.Job.{Job}
 use Rattle.encode_raster.proofs.Laws.Whole.{Ready, by_field, within, job_within, by_plan, ready}

@@ -1,4 +1,4 @@
-use Rattle.std.proofs.Common.{arith, rules}
+use Rattle.std.proofs.Common.{arith}
 use Rattle.units.specs.LittleEndian.{u16_at}
 use Rattle.fields.proofs.header_blocks.Goals as goal
 

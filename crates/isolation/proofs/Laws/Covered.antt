@@ -1,6 +1,6 @@
 -- Changes inside bodies: each is covered, and nothing else is.
 use Prim.Native.Nat.{ℕ, zero, suc, ◌+◌, ◌≤◌, ◌<◌}
-use Rattle.std.specs.Prelude.{◌≡◌, Bool, true, false, ◌⊎◌, ◌≢◌, List, length, get_or, set, ltb, leb}
+use Rattle.std.specs.Prelude.{◌≡◌, Bool, true, false, ◌⊎◌, List, length, get_or, set, ltb, leb}
 use Rattle.std.proofs.Math.Path.{refl}
 use Rattle.std.proofs.Common.{sym, ◌∙◌, ap, subst, arith, length-set, get_or-set_same, get_or-set_other, ext_get_or, ltb-true, ltb-false, leb-true, leb-false}
 use Rattle.std.proofs.Math.Logic.{inl, inr}
@@ -13,7 +13,7 @@ use Rattle.units.proofs.Laws.Numbers.{below_next}
 use Rattle.units.proofs.Laws.Over.{sets_misses}
 use Rattle.layout.specs.Chain.{Raster, sheet_of, start, body_at}
 use Rattle.isolation.specs.Statement.{InBody, ChangedInBodies}
-use Rattle.isolation.specs.Covered.{with_body_byte, blanked, Covered, AllCovered, ChangedAgain}
+use Rattle.isolation.specs.Covered.{with_body_byte, blanked, AllCovered, ChangedAgain}
 use Rattle.isolation.proofs.Laws.OneFile.{with_bytes}
 use Rattle.isolation.proofs.Laws.TwoFiles.{same_sheet, same_starts, same_body_lengths}
 

@@ -1,9 +1,9 @@
 -- A reading that is not rejected: its number of good scanlines.
-use Rattle.std.specs.Prelude.{ℕ, zero, suc, ◌+◌, ◌≡◌, refl, List, [], ◌∷◌, ◌++◌, length, take, drop}
-use Rattle.std.proofs.Common.{sym, ◌∙◌, ap, arith, take_at}
-use Rattle.layout.specs.Chain.{Raster, sheet_of, reading_at, statuses, one_if_good, good_count}
-use Rattle.layout.specs.Reading.{raster_rejection, raster_reading, marks_after, count_good, GoodCounted}
-use Rattle.layout.proofs.Laws.Chain.{length-statuses, good_suc}
+use Rattle.std.specs.Prelude.{ℕ, zero, suc, ◌+◌, ◌≡◌, refl, List, [], ◌∷◌, ◌++◌, drop}
+use Rattle.std.proofs.Common.{arith, take_at}
+use Rattle.layout.specs.Chain.{Raster, sheet_of, reading_at, statuses, good_count}
+use Rattle.layout.specs.Reading.{raster_reading, marks_after, count_good, GoodCounted}
+use Rattle.layout.proofs.Laws.Chain.{length-statuses}
 
 count_append : (a b : List ℕ) → count_good (a ++ b) ≡ count_good a + count_good b
 unfolding count_good

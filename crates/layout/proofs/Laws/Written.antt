@@ -1,5 +1,5 @@
 -- One scanline whose body is a codec's, whatever follows it: its reading is good, and it uses its own bytes.
-use Rattle.std.specs.Prelude.{ℕ, ◌+◌, ◌-◌, ◌%◌, ◌≤◌, ◌<◌, ◌≡◌, refl, Bool, true, false, cond, List, ◌++◌, length, take, drop, eqb}
+use Rattle.std.specs.Prelude.{ℕ, ◌+◌, ◌-◌, ◌%◌, ◌≤◌, ◌≡◌, refl, Bool, true, false, cond, List, ◌++◌, length, take, drop, eqb}
 use Rattle.std.proofs.Common.{sym, ◌∙◌, ap₂, append_assoc, arith, length-append, drop_at, eq-eqb, le-ltb, eqb-true}
 use Rattle.std.proofs.Math.Path.{ap}
 use Rattle.std.proofs.Math.Seq.{take_at}

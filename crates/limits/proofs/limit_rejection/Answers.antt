@@ -1,4 +1,4 @@
-use Rattle.std.proofs.Common.{◌++◌, rules}
+use Rattle.std.proofs.Common.{◌++◌}
 use Rattle.limits.specs.Limits.{type_rules, slo_rules, scn_rules, ppl_rules, nol_rules}
 use Rattle.units.proofs.Laws.Rules.{by_either}
 use Rattle.limits.proofs.limit_rejection.Goals as goal

@@ -1,4 +1,4 @@
-use Rattle.std.proofs.Common.{sym, ◌∙◌, rules}
+use Rattle.std.proofs.Common.{sym, ◌∙◌}
 use Rattle.limits.proofs.type_rejection.Goals as goal
 
 pub returns-then-is_data_type : goal.returns-then-is_data_type

@@ -1,4 +1,4 @@
-use Rattle.std.proofs.Common.{eq-eqb, ne_eqb, rules}
+use Rattle.std.proofs.Common.{eq-eqb, ne_eqb}
 use Rattle.limits.proofs.zero_or_above.Goals as goal
 
 pub returns-then-n-eq0 : goal.returns-then-n-eq0

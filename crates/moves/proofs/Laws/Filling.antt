@@ -1,5 +1,5 @@
 -- The loops that fill a line, and a picture by rows or by bands of columns.
-use Prim.Native.Nat.{ℕ, suc, ◌+◌, ◌-◌, ◌*◌, ◌/◌, ◌%◌, ◌≤◌, ◌<◌}
+use Prim.Native.Nat.{ℕ, ◌+◌, ◌-◌, ◌*◌, ◌/◌, ◌%◌, ◌≤◌, ◌<◌}
 use Rattle.std.specs.Prelude.{◌≡◌, refl, ◌⊎◌, Bool, true, false, length, get_or, take, set, eqb, ltb}
 use Rattle.std.proofs.Math.Path.{sym}
 use Rattle.std.proofs.Common.{◌∙◌, ap, subst, inl, inr, div-add-mod', arith, length-append, length-set, get_or-set_same, get_or-set_other, get_or-take, get_or-drop, get_or-append-add, length-take-le, eqb-true, ltb-true, ltb-false}

@@ -1,10 +1,9 @@
 -- A picture by its rows and columns, as the loops fill it, and the moves that are such pictures.
-use Rattle.std.specs.Prelude.{ℕ, ◌+◌, ◌*◌, ◌/◌, ◌%◌, ◌≤◌, ◌<◌, ◌≡◌, Bool, List, ◌++◌, length, get_or, drop}
+use Rattle.std.specs.Prelude.{ℕ, ◌*◌, ◌≤◌, ◌<◌, ◌≡◌, Bool, List, ◌++◌, length, drop}
 use Rattle.std.proofs.Common.{◌∙◌}
 use Rattle.std.proofs.Math.Bool.{true, false}
 use borrow.Author.Tests.{lt-ltb, le-ltb}
-use Rattle.moves.specs.Tabulate.{tabulate}
-use Rattle.moves.specs.Moves.{mirror, moved, moved_after}
+use Rattle.moves.specs.Moves.{moved, moved_after}
 unfoldable pub use Rattle.moves.specs.Laws.Picture.{row_pixel, column_pixel, picture, line_moved}
 
 module _ (crossed leftward upward : Bool) (w h : ℕ) (input output : List ℕ) where

@@ -1,6 +1,6 @@
 -- The loop that fills a picture row after row.
-use Rattle.std.specs.Prelude.{ℕ, zero, suc, ◌+◌, ◌-◌, ◌*◌, ◌/◌, ◌%◌, ◌≤◌, ◌<◌, ◌≡◌, refl, Bool, List, ◌++◌, length, get_or, take, drop}
-use Rattle.std.proofs.Common.{sym, ◌∙◌, ap, ap₂, subst, zero-mul, suc-mul, mul-le-mul_right, add-one, arith, length-append, length-drop, get_or-take, get_or-drop}
+use Rattle.std.specs.Prelude.{ℕ, suc, ◌+◌, ◌-◌, ◌*◌, ◌/◌, ◌%◌, ◌≤◌, ◌<◌, ◌≡◌, Bool, List, ◌++◌, length, get_or, take, drop}
+use Rattle.std.proofs.Common.{sym, ◌∙◌, ap, ap₂, zero-mul, suc-mul, mul-le-mul_right, add-one, arith, length-append, length-drop, get_or-take, get_or-drop}
 use borrow.Rule.Slice.PartMut.{mid_of, put_mid, mid_len}
 use Rattle.units.proofs.Laws.Parts.{replace_part}
 use Rattle.moves.specs.Tabulate.{tabulate}

@@ -1,8 +1,8 @@
-use Rattle.std.proofs.Common.{ℕ, ◌+◌, ◌-◌, ◌*◌, ◌≤◌, ◌<◌, zero-le, ◌≡◌, refl, ◌∙◌, List, arith, length, rules}
+use Rattle.std.proofs.Common.{◌+◌, ◌*◌, ◌≤◌, ◌<◌, zero-le, ◌≡◌, refl, ◌∙◌, arith, length}
 use borrow.Rule.Slice.PartMut.{mid_len}
 use Rattle.moves.proofs.Laws.Grid.{mirror_below, rows_apart}
 use Rattle.moves.proofs.Laws.Picture.{column_pixel}
-use Rattle.moves.proofs.Laws.Filling.{Filled, band_first, band_last, run-kept, run_more}
+use Rattle.moves.proofs.Laws.Filling.{band_first, band_last, run-kept, run_more}
 use Rattle.moves.proofs.fill_band.Goals as goal
 
 pub loop-y-init : goal.loop-y-init

@@ -1,8 +1,6 @@
-use Rattle.std.proofs.Common.{ℕ, ◌+◌, ◌-◌, ◌*◌, ◌≤◌, ◌<◌, zero-le, ◌≡◌, refl, ◌∙◌, List, arith, length, rules}
-use borrow.Rule.Slice.PartMut.{mid_len}
-use Rattle.moves.proofs.Laws.Grid.{mirror_below, rows_apart}
+use Rattle.std.proofs.Common.{ℕ, ◌-◌, ◌≤◌, ◌≡◌, List, length}
 use Rattle.moves.proofs.Laws.Picture.{column_pixel}
-use Rattle.moves.proofs.Laws.Filling.{Filled, band_first, band_last, run-kept, run_more}
+use Rattle.moves.proofs.Laws.Filling.{Filled}
 use Rattle.moves.proofs.fill_band.Given as goal
 
 abbrev pub invariant-loop-y : goal.invariant-loop-y

@@ -1,4 +1,4 @@
-use Rattle.std.proofs.Common.{ℕ, ◌-◌, ◌*◌, ◌≤◌, zero-le, ◌≡◌, refl, ◌∙◌, arith, length, rules}
+use Rattle.std.proofs.Common.{zero-le, ◌≡◌, refl, ◌∙◌, arith}
 use Rattle.moves.proofs.Laws.Picture.{column_pixel}
 use Rattle.moves.proofs.Laws.Filling.{Filled, filled_none, filled_all}
 use Rattle.moves.proofs.fill_columns.Goals as goal

@@ -1,6 +1,6 @@
-use Rattle.std.proofs.Common.{ℕ, ◌-◌, ◌*◌, ◌≤◌, zero-le, ◌≡◌, refl, ◌∙◌, arith, length, rules}
+use Rattle.std.proofs.Common.{◌-◌, ◌≤◌, ◌≡◌, length}
 use Rattle.moves.proofs.Laws.Picture.{column_pixel}
-use Rattle.moves.proofs.Laws.Filling.{Filled, filled_none, filled_all}
+use Rattle.moves.proofs.Laws.Filling.{Filled}
 use Rattle.moves.proofs.fill_columns.Given as goal
 
 abbrev pub invariant-loop-x : goal.invariant-loop-x

@@ -1,8 +1,8 @@
-use Rattle.std.proofs.Common.{ℕ, ◌-◌, ◌<◌, ap, arith, length, get_or, rules}
+use Rattle.std.proofs.Common.{ℕ, ◌<◌, ap, arith, length, get_or}
 use Rattle.moves.specs.Moves.{mirror}
 use Rattle.moves.proofs.Laws.Grid.{mirror_below}
 use Rattle.moves.proofs.Laws.Picture.{line_moved}
-use Rattle.moves.proofs.Laws.Filling.{Stored, stored-none, stored_more, stored_all}
+use Rattle.moves.proofs.Laws.Filling.{stored-none, stored_more, stored_all}
 use Rattle.moves.proofs.fill_row.Goals as goal
 
 pub loop-x-preserved : goal.loop-x-preserved

@@ -1,8 +1,6 @@
-use Rattle.std.proofs.Common.{ℕ, ◌-◌, ◌<◌, ap, arith, length, get_or, rules}
+use Rattle.std.proofs.Common.{◌-◌, get_or}
 use Rattle.moves.specs.Moves.{mirror}
-use Rattle.moves.proofs.Laws.Grid.{mirror_below}
-use Rattle.moves.proofs.Laws.Picture.{line_moved}
-use Rattle.moves.proofs.Laws.Filling.{Stored, stored-none, stored_more, stored_all}
+use Rattle.moves.proofs.Laws.Filling.{Stored}
 use Rattle.moves.proofs.fill_row.Given as goal
 
 abbrev pub invariant-loop-x : goal.invariant-loop-x

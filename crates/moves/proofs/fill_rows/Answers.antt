@@ -1,7 +1,6 @@
-use Rattle.std.proofs.Common.{ℕ, ◌+◌, ◌-◌, ◌*◌, ◌≤◌, ◌<◌, zero-le, ◌≡◌, ◌++◌, arith, length, take, drop, length-drop, length-take-le, rules}
+use Rattle.std.proofs.Common.{◌+◌, ◌-◌, ◌*◌, ◌≤◌, ◌<◌, zero-le, ◌≡◌, arith, length, drop, length-drop, length-take-le}
 use borrow.Rule.Slice.PartMut.{mid_len}
 use Rattle.moves.proofs.Laws.Grid.{mirror_below, rows_apart}
-use Rattle.moves.proofs.Laws.Picture.{row_pixel, picture}
 use Rattle.moves.proofs.Laws.Rows.{picture-none, rows-length, row_more}
 use Rattle.moves.proofs.fill_rows.Goals as goal
 
@@ -11,7 +10,7 @@ loop-y-init c = (zero-le, picture-none _ _ _)
 pub fill_row-requires : goal.fill_row-requires
 fill_row-requires c =
     let line-within : let a = c.args in c.mirror_row.result * a.w + a.w ≤ length a.input.now = let a = c.args in let m : c.mirror_row.result < a.h = rw c.mirror_row.ensures (mirror_below a.upward a.h c.loop-y.y c.loop-y-test.true) in omega (arith, rows_apart a.w c.mirror_row.result a.h m, c.requires.input_room) in
-    let row_within : let a = c.args in let l = c.loop-y in (l.y * a.w + a.w ≤ length a.output.now) × (length l.output ≡ length a.output.now) = let a = c.args in let l = c.loop-y in ( omega (arith, rows_apart a.w l.y a.h c.loop-y-test.true, c.requires.output_room), rows-length a.w a.h l.y _ a.output.now l.output l.invariant.0 c.requires.output_room l.invariant.1, ) in
+    let row_within : let a = c.args in let l = c.loop-y in (l.y * a.w + a.w ≤ length a.output.now) × (length l.output ≡ length a.output.now) = let a = c.args in let l = c.loop-y in (omega (arith, rows_apart a.w l.y a.h c.loop-y-test.true, c.requires.output_room), rows-length a.w a.h l.y _ a.output.now l.output l.invariant.0 c.requires.output_room l.invariant.1) in
     let a = c.args in
     let from = c.mirror_row.result * a.w in
     let at = c.loop-y.y * a.w in
@@ -42,7 +41,7 @@ overflow_mul-from c =
 
 pub overflow_mul-at : goal.overflow_mul-at
 overflow_mul-at c =
-    let row_within : let a = c.args in let l = c.loop-y in (l.y * a.w + a.w ≤ length a.output.now) × (length l.output ≡ length a.output.now) = let a = c.args in let l = c.loop-y in ( omega (arith, rows_apart a.w l.y a.h c.loop-y-test.true, c.requires.output_room), rows-length a.w a.h l.y _ a.output.now l.output l.invariant.0 c.requires.output_room l.invariant.1, ) in
+    let row_within : let a = c.args in let l = c.loop-y in (l.y * a.w + a.w ≤ length a.output.now) × (length l.output ≡ length a.output.now) = let a = c.args in let l = c.loop-y in (omega (arith, rows_apart a.w l.y a.h c.loop-y-test.true, c.requires.output_room), rows-length a.w a.h l.y _ a.output.now l.output l.invariant.0 c.requires.output_room l.invariant.1) in
     omega (arith, row_within)
 
 pub overflow_add-from : goal.overflow_add-from
@@ -72,25 +71,25 @@ slice_bounds-fill_row-end c =
 
 pub overflow_add-at : goal.overflow_add-at
 overflow_add-at c =
-    let row_within : let a = c.args in let l = c.loop-y in (l.y * a.w + a.w ≤ length a.output.now) × (length l.output ≡ length a.output.now) = let a = c.args in let l = c.loop-y in ( omega (arith, rows_apart a.w l.y a.h c.loop-y-test.true, c.requires.output_room), rows-length a.w a.h l.y _ a.output.now l.output l.invariant.0 c.requires.output_room l.invariant.1, ) in
+    let row_within : let a = c.args in let l = c.loop-y in (l.y * a.w + a.w ≤ length a.output.now) × (length l.output ≡ length a.output.now) = let a = c.args in let l = c.loop-y in (omega (arith, rows_apart a.w l.y a.h c.loop-y-test.true, c.requires.output_room), rows-length a.w a.h l.y _ a.output.now l.output l.invariant.0 c.requires.output_room l.invariant.1) in
     omega (arith, row_within)
 
 pub offset_bounds-output-at : goal.offset_bounds-output-at
 offset_bounds-output-at c =
-    let row_within : let a = c.args in let l = c.loop-y in (l.y * a.w + a.w ≤ length a.output.now) × (length l.output ≡ length a.output.now) = let a = c.args in let l = c.loop-y in ( omega (arith, rows_apart a.w l.y a.h c.loop-y-test.true, c.requires.output_room), rows-length a.w a.h l.y _ a.output.now l.output l.invariant.0 c.requires.output_room l.invariant.1, ) in
+    let row_within : let a = c.args in let l = c.loop-y in (l.y * a.w + a.w ≤ length a.output.now) × (length l.output ≡ length a.output.now) = let a = c.args in let l = c.loop-y in (omega (arith, rows_apart a.w l.y a.h c.loop-y-test.true, c.requires.output_room), rows-length a.w a.h l.y _ a.output.now l.output l.invariant.0 c.requires.output_room l.invariant.1) in
     omega (arith, row_within)
 
 pub slice_bounds-fill_row-count-in-loop-y : goal.slice_bounds-fill_row-count-in-loop-y
 slice_bounds-fill_row-count-in-loop-y c =
-    let row_within : let a = c.args in let l = c.loop-y in (l.y * a.w + a.w ≤ length a.output.now) × (length l.output ≡ length a.output.now) = let a = c.args in let l = c.loop-y in ( omega (arith, rows_apart a.w l.y a.h c.loop-y-test.true, c.requires.output_room), rows-length a.w a.h l.y _ a.output.now l.output l.invariant.0 c.requires.output_room l.invariant.1, ) in
+    let row_within : let a = c.args in let l = c.loop-y in (l.y * a.w + a.w ≤ length a.output.now) × (length l.output ≡ length a.output.now) = let a = c.args in let l = c.loop-y in (omega (arith, rows_apart a.w l.y a.h c.loop-y-test.true, c.requires.output_room), rows-length a.w a.h l.y _ a.output.now l.output l.invariant.0 c.requires.output_room l.invariant.1) in
     omega (arith, row_within)
 
 pub slice_bounds-fill_row-start-in-loop-y : goal.slice_bounds-fill_row-start-in-loop-y
 slice_bounds-fill_row-start-in-loop-y c =
-    let row_within : let a = c.args in let l = c.loop-y in (l.y * a.w + a.w ≤ length a.output.now) × (length l.output ≡ length a.output.now) = let a = c.args in let l = c.loop-y in ( omega (arith, rows_apart a.w l.y a.h c.loop-y-test.true, c.requires.output_room), rows-length a.w a.h l.y _ a.output.now l.output l.invariant.0 c.requires.output_room l.invariant.1, ) in
+    let row_within : let a = c.args in let l = c.loop-y in (l.y * a.w + a.w ≤ length a.output.now) × (length l.output ≡ length a.output.now) = let a = c.args in let l = c.loop-y in (omega (arith, rows_apart a.w l.y a.h c.loop-y-test.true, c.requires.output_room), rows-length a.w a.h l.y _ a.output.now l.output l.invariant.0 c.requires.output_room l.invariant.1) in
     omega (arith, row_within)
 
 pub slice_bounds-fill_row-end-in-loop-y : goal.slice_bounds-fill_row-end-in-loop-y
 slice_bounds-fill_row-end-in-loop-y c =
-    let row_within : let a = c.args in let l = c.loop-y in (l.y * a.w + a.w ≤ length a.output.now) × (length l.output ≡ length a.output.now) = let a = c.args in let l = c.loop-y in ( omega (arith, rows_apart a.w l.y a.h c.loop-y-test.true, c.requires.output_room), rows-length a.w a.h l.y _ a.output.now l.output l.invariant.0 c.requires.output_room l.invariant.1, ) in
+    let row_within : let a = c.args in let l = c.loop-y in (l.y * a.w + a.w ≤ length a.output.now) × (length l.output ≡ length a.output.now) = let a = c.args in let l = c.loop-y in (omega (arith, rows_apart a.w l.y a.h c.loop-y-test.true, c.requires.output_room), rows-length a.w a.h l.y _ a.output.now l.output l.invariant.0 c.requires.output_room l.invariant.1) in
     omega (arith, row_within)

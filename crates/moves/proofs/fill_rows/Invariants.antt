@@ -1,8 +1,5 @@
-use Rattle.std.proofs.Common.{ℕ, ◌+◌, ◌-◌, ◌*◌, ◌≤◌, ◌<◌, zero-le, ◌≡◌, ◌++◌, arith, length, take, drop, length-drop, length-take-le, rules}
-use borrow.Rule.Slice.PartMut.{mid_len}
-use Rattle.moves.proofs.Laws.Grid.{mirror_below, rows_apart}
+use Rattle.std.proofs.Common.{◌-◌, ◌*◌, ◌≤◌, ◌≡◌, ◌++◌, drop}
 use Rattle.moves.proofs.Laws.Picture.{row_pixel, picture}
-use Rattle.moves.proofs.Laws.Rows.{picture-none, rows-length, row_more}
 use Rattle.moves.proofs.fill_rows.Given as goal
 
 abbrev pub invariant-loop-y : goal.invariant-loop-y

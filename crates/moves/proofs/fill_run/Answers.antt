@@ -1,7 +1,7 @@
-use Rattle.std.proofs.Common.{ℕ, ◌+◌, ◌-◌, ◌*◌, ◌<◌, ap, mul_comm, arith, length, get_or, rules}
+use Rattle.std.proofs.Common.{ℕ, ◌+◌, ◌*◌, ◌<◌, ap, mul_comm, arith, length, get_or}
 use Rattle.moves.specs.Moves.{mirror}
 use Rattle.moves.proofs.Laws.Grid.{mirror_below, cell_below}
-use Rattle.moves.proofs.Laws.Filling.{Stored, stored-none, stored_more, stored_all}
+use Rattle.moves.proofs.Laws.Filling.{stored-none, stored_more, stored_all}
 use Rattle.moves.proofs.fill_run.Goals as goal
 
 pub loop-j-init : goal.loop-j-init

@@ -1,7 +1,6 @@
-use Rattle.std.proofs.Common.{ℕ, ◌+◌, ◌-◌, ◌*◌, ◌<◌, ap, mul_comm, arith, length, get_or, rules}
+use Rattle.std.proofs.Common.{◌+◌, ◌-◌, ◌*◌, length, get_or}
 use Rattle.moves.specs.Moves.{mirror}
-use Rattle.moves.proofs.Laws.Grid.{mirror_below, cell_below}
-use Rattle.moves.proofs.Laws.Filling.{Stored, stored-none, stored_more, stored_all}
+use Rattle.moves.proofs.Laws.Filling.{Stored}
 use Rattle.moves.proofs.fill_run.Given as goal
 
 abbrev pub invariant-loop-j : goal.invariant-loop-j

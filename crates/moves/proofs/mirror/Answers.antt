@@ -1,4 +1,3 @@
-use Rattle.std.proofs.Common.{rules}
 use Rattle.moves.specs.Moves.{mirror}
 use Rattle.moves.proofs.mirror.Goals as goal
 

@@ -1,4 +1,3 @@
-use Rattle.std.proofs.Common.{rules}
 use Rattle.moves.proofs.Laws.Grid.{mirror_down, mirror_up}
 use Rattle.moves.proofs.mirror_row.Goals as goal
 

@@ -1,4 +1,4 @@
-use Rattle.std.proofs.Common.{sym, rules}
+use Rattle.std.proofs.Common.{sym}
 use Rattle.units.proofs.Laws.Numbers.{product_fits}
 use Rattle.moves.proofs.Laws.Picture.{short_input, short_output, rows-moved, columns_moved}
 use Rattle.moves.proofs.move_pixels.Goals as goal

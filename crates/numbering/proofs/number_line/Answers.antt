@@ -1,4 +1,4 @@
-use Rattle.std.proofs.Common.{sym, arith, rules}
+use Rattle.std.proofs.Common.{sym, arith}
 use Rattle.numbering.proofs.Laws.Numbering.{number-low, met_elsewhere}
 use Rattle.numbering.proofs.number_line.Goals as goal
 

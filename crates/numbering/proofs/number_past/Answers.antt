@@ -1,4 +1,3 @@
-use Rattle.std.proofs.Common.{rules}
 use Rattle.numbering.proofs.Laws.Numbering.{number-from-one, number-from-zero}
 use Rattle.numbering.proofs.number_past.Goals as goal
 

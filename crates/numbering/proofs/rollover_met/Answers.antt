@@ -1,4 +1,4 @@
-use Rattle.std.proofs.Common.{rules, eq-eqb, ne_eqb}
+use Rattle.std.proofs.Common.{eq-eqb, ne_eqb}
 use Rattle.numbering.specs.Numbering.{rollover_met}
 use Rattle.numbering.proofs.rollover_met.Goals as goal
 

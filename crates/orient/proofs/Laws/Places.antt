@@ -3,7 +3,6 @@ use Rattle.std.specs.Prelude.{ℕ, ◌+◌, ◌*◌, ◌/◌, ◌%◌, ◌<◌, 
 use Rattle.std.proofs.Common.{◌∙◌, subst, div-add-mod'}
 use Rattle.std.proofs.Math.Path.{ap}
 use Rattle.std.proofs.Math.ListN.{get_or}
-use Rattle.moves.specs.Tabulate.{tabulate}
 use Rattle.moves.specs.Moves.{mirror}
 use Rattle.orient.specs.Orientation.{at_right, at_bottom, lines_are_rows, width, height, column_of, row_of, place_of, place, line_at, pixel_at, source, turned, turned_back}
 use Rattle.orient.specs.Statement.{OneToOne, AllOneToOne, AllUpright, AllTurnBack}

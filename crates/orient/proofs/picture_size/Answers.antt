@@ -1,4 +1,4 @@
-use Rattle.std.proofs.Common.{sym, ◌∙◌, rules}
+use Rattle.std.proofs.Common.{sym, ◌∙◌}
 use Rattle.orient.proofs.picture_size.Goals as goal
 
 pub returns-then-bit_set : goal.returns-then-bit_set

@@ -1,4 +1,3 @@
-use Rattle.std.proofs.Common.{◌∙◌, rules}
 use Rattle.orient.specs.Turning.{upright_after}
 use Rattle.orient.proofs.turn.Goals as goal
 

@@ -1,4 +1,3 @@
-use Rattle.std.proofs.Common.{◌∙◌, rules}
 use Rattle.orient.specs.Turning.{pixels_after}
 use Rattle.orient.proofs.turn_back.Goals as goal
 

@@ -1,4 +1,4 @@
-use Rattle.std.proofs.Common.{◌++◌, rules}
+use Rattle.std.proofs.Common.{◌++◌}
 use Rattle.units.proofs.Laws.Numbers.{product_fits}
 use Rattle.units.proofs.Laws.Rules.{by_either}
 use Rattle.limits.specs.Limits.{slo_rules, ppl_rules, nol_rules}

@@ -1,4 +1,4 @@
-use Rattle.std.proofs.Common.{length-take-le, length, arith, ◌≤◌, ◌≡◌, refl, sym, ◌∙◌, ap, rules}
+use Rattle.std.proofs.Common.{length-take-le, length, arith, ◌≤◌, ◌≡◌, refl, sym, ◌∙◌, ap}
 use Rattle.round_trip.specs.Call.{BothCalls}
 use Rattle.encode_raster.proofs.Laws.Call.{number_is, number-from, size_fits, length_after}
 use Rattle.round_trip.proofs.Laws.Call.{given_back}

@@ -1,4 +1,4 @@
-use Rattle.std.proofs.Common.{eq-eqb, ne_eqb, rules}
+use Rattle.std.proofs.Common.{eq-eqb, ne_eqb}
 use Rattle.scan_scanline.proofs.first_column.Goals as goal
 
 pub returns-then-scn-ne1 : goal.returns-then-scn-ne1

@@ -1,11 +1,11 @@
 -- What holds of a file that is transcoded: no rule of the table does.
-use Rattle.std.specs.Prelude.{ℕ, zero, suc, ◌≤◌, ◌<◌, ◌≡◌, refl, Bool, true, false, not, ◌&&◌, ◌||◌, ◌⊎◌, List, ◌++◌, length, eqb}
+use Rattle.std.specs.Prelude.{ℕ, ◌≤◌, ◌≡◌, refl, Bool, true, false, not, ◌&&◌, ◌||◌, List, ◌++◌, length, eqb}
 use Rattle.std.proofs.Common.{sym, ◌∙◌, ap, inl, inr, ltb-false, eqb-true, eq-eqb}
 use Rattle.std.proofs.lemmas.Bool.{false≢true, not-false}
-use Rattle.units.specs.Counts.{n_blocks, bytes_of_blocks}
+use Rattle.units.specs.Counts.{bytes_of_blocks}
 use Rattle.units.proofs.Laws.Rules.{none_holds, both_none}
 use Rattle.fields.specs.declared.Fields.{Fields}
-use Rattle.fields.specs.Fields.{fields_of, header_blocks}
+use Rattle.fields.specs.Fields.{header_blocks}
 use Rattle.header.specs.Rejections.{rules_to22, rejection_to22}
 use Rattle.header.proofs.Laws.Accepted.{accepted}
 use Rattle.layout.specs.Scanline.{pixel_offset}

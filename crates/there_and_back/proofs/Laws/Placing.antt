@@ -1,6 +1,6 @@
 -- A word put at a byte of a list: what stands there then, elsewhere, and where it stood before.
-use Rattle.std.specs.Prelude.{ℕ, suc, ◌+◌, ◌*◌, ◌/◌, ◌%◌, ◌≤◌, ◌<◌, ◌≡◌, List, length, get_or, set}
-use Rattle.std.proofs.Common.{sym, ◌∙◌, ap, add-one, arith, length-set, set-set, get_or-set_same, get_or-set_other}
+use Rattle.std.specs.Prelude.{ℕ, suc, ◌+◌, ◌/◌, ◌%◌, ◌≤◌, ◌<◌, ◌≡◌, List, length, get_or, set}
+use Rattle.std.proofs.Common.{◌∙◌, ap, add-one, arith, length-set, set-set, get_or-set_same, get_or-set_other}
 use Rattle.std.proofs.lemmas.List.Edits.{sets}
 use Rattle.std.proofs.lemmas.List.{set_comm, set-get_or}
 use Rattle.units.specs.LittleEndian.{u16_at}

@@ -1,7 +1,7 @@
 -- One new scanline put at the start of an output; and the loop that writes them: what holds before scanline k, at its start, from turn to
 -- turn and at its end.
 use Rattle.std.specs.Prelude.{ℕ, zero, suc, ◌+◌, ◌-◌, ◌/◌, ◌%◌, ◌≤◌, ◌<◌, min, ◌≡◌, refl, true, false, List, ◌++◌, length, take, drop, set, eqb}
-use Rattle.std.proofs.Common.{zero-le, sym, ◌∙◌, ap, subst, append_assoc, ⊎_elim, eq-or-lt_of_le, add-one, arith, eq-eqb, ne_eqb, eqb-true, ltb-false, length-append, length-drop, length-set, drop-drop, drop_at, length-take-le}
+use Rattle.std.proofs.Common.{zero-le, sym, ◌∙◌, ap, append_assoc, ⊎_elim, eq-or-lt_of_le, add-one, arith, eq-eqb, ne_eqb, eqb-true, ltb-false, length-append, length-drop, length-set, drop-drop, drop_at, length-take-le}
 use Rattle.std.proofs.Math.Path.{subst⁻¹}
 use Rattle.std.proofs.lemmas.Bool.{not-false}
 use borrow.Rule.Slice.PartMut.{mid_of, put_mid, same_len_mid}

@@ -1,4 +1,4 @@
-use Rattle.std.proofs.Common.{◌∙◌, ap, rules}
+use Rattle.std.proofs.Common.{◌∙◌, ap}
 use Rattle.units.specs.Rules.{first}
 use Rattle.units.proofs.Laws.Rules.{by_first, by_second}
 use Rattle.header.specs.Rejections.{rules_to22, rejection_to22}

@@ -1,4 +1,3 @@
-use Rattle.std.proofs.Common.{rules}
 use Rattle.layout.specs.Chain.{raster_of}
 use Rattle.transcode.proofs.Laws.Survey.{planned}
 use Rattle.transcode.proofs.plan_file.Goals as goal

@@ -1,4 +1,4 @@
-use Rattle.std.proofs.Common.{◌+◌, ◌≤◌, sym, length, arith, rules}
+use Rattle.std.proofs.Common.{◌+◌, ◌≤◌, sym, length, arith}
 use Rattle.codec.specs.Table.{body_bytes}
 use Rattle.layout.specs.Scanline.{head_of}
 use Rattle.transcode.proofs.Laws.Writing.{line_open, headed_room, line-headed}

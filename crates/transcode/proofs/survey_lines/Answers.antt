@@ -1,6 +1,6 @@
-use Rattle.std.proofs.Common.{◌+◌, ◌-◌, ◌≤◌, sym, ◌∙◌, length, arith, rules}
+use Rattle.std.proofs.Common.{◌+◌, ◌≤◌, sym, ◌∙◌, length, arith}
 use Rattle.layout.specs.Chain.{raster_of}
-use Rattle.transcode.proofs.Laws.Survey.{SurveyAt, survey_first, row_kept, survey_refused, used_within, body_most, survey_next, survey_done}
+use Rattle.transcode.proofs.Laws.Survey.{survey_first, row_kept, survey_refused, used_within, body_most, survey_next, survey_done}
 use Rattle.transcode.proofs.survey_lines.Goals as goal
 
 pub loop-k-init : goal.loop-k-init
@@ -24,17 +24,17 @@ returns-then-line-ne0 c =
 
 pub overflow_add-size : goal.overflow_add-size
 overflow_add-size c =
-    let good : let l = c.loop-k in let a = c.survey_line-line.result in (l.at + a.used.0 ≤ length c.args.bytes.now) × (c.body_start-head.result + a.body.0 ≤ 262152) = let l = c.loop-k in let x = c.survey_line-line.ensures in let met = c.number_line-numbered.ensures.rollover_value in let wanted = c.number_line-numbered.ensures.number_value in let r = raster_of c.args.l c.args.bytes.now in let typed = c.other_type-to.ensures in let head = c.body_start-head.ensures in ( used_within r l.at l.rollover l.partway l.long l.size l.row l.k l.invariant c.loop-k-test.true typed met wanted x.survey c.if-line-ne0.false, body_most r l.at l.rollover l.partway l.long l.size l.row l.k l.invariant c.loop-k-test.true typed met wanted x.survey c.if-line-ne0.false c.requires.ppl_most head, ) in
+    let good : let l = c.loop-k in let a = c.survey_line-line.result in (l.at + a.used.0 ≤ length c.args.bytes.now) × (c.body_start-head.result + a.body.0 ≤ 262152) = let l = c.loop-k in let x = c.survey_line-line.ensures in let met = c.number_line-numbered.ensures.rollover_value in let wanted = c.number_line-numbered.ensures.number_value in let r = raster_of c.args.l c.args.bytes.now in let typed = c.other_type-to.ensures in let head = c.body_start-head.ensures in (used_within r l.at l.rollover l.partway l.long l.size l.row l.k l.invariant c.loop-k-test.true typed met wanted x.survey c.if-line-ne0.false, body_most r l.at l.rollover l.partway l.long l.size l.row l.k l.invariant c.loop-k-test.true typed met wanted x.survey c.if-line-ne0.false c.requires.ppl_most head) in
     omega (arith, good.1)
 
 pub overflow_add-size-in-loop-k : goal.overflow_add-size-in-loop-k
 overflow_add-size-in-loop-k c =
-    let good : let l = c.loop-k in let a = c.survey_line-line.result in (l.at + a.used.0 ≤ length c.args.bytes.now) × (c.body_start-head.result + a.body.0 ≤ 262152) = let l = c.loop-k in let x = c.survey_line-line.ensures in let met = c.number_line-numbered.ensures.rollover_value in let wanted = c.number_line-numbered.ensures.number_value in let r = raster_of c.args.l c.args.bytes.now in let typed = c.other_type-to.ensures in let head = c.body_start-head.ensures in ( used_within r l.at l.rollover l.partway l.long l.size l.row l.k l.invariant c.loop-k-test.true typed met wanted x.survey c.if-line-ne0.false, body_most r l.at l.rollover l.partway l.long l.size l.row l.k l.invariant c.loop-k-test.true typed met wanted x.survey c.if-line-ne0.false c.requires.ppl_most head, ) in
+    let good : let l = c.loop-k in let a = c.survey_line-line.result in (l.at + a.used.0 ≤ length c.args.bytes.now) × (c.body_start-head.result + a.body.0 ≤ 262152) = let l = c.loop-k in let x = c.survey_line-line.ensures in let met = c.number_line-numbered.ensures.rollover_value in let wanted = c.number_line-numbered.ensures.number_value in let r = raster_of c.args.l c.args.bytes.now in let typed = c.other_type-to.ensures in let head = c.body_start-head.ensures in (used_within r l.at l.rollover l.partway l.long l.size l.row l.k l.invariant c.loop-k-test.true typed met wanted x.survey c.if-line-ne0.false, body_most r l.at l.rollover l.partway l.long l.size l.row l.k l.invariant c.loop-k-test.true typed met wanted x.survey c.if-line-ne0.false c.requires.ppl_most head) in
     omega (arith, good.1, c.loop-k.invariant.size_most, c.loop-k.invariant.low, c.requires.nol_most)
 
 pub overflow_add-at : goal.overflow_add-at
 overflow_add-at c =
-    let good : let l = c.loop-k in let a = c.survey_line-line.result in (l.at + a.used.0 ≤ length c.args.bytes.now) × (c.body_start-head.result + a.body.0 ≤ 262152) = let l = c.loop-k in let x = c.survey_line-line.ensures in let met = c.number_line-numbered.ensures.rollover_value in let wanted = c.number_line-numbered.ensures.number_value in let r = raster_of c.args.l c.args.bytes.now in let typed = c.other_type-to.ensures in let head = c.body_start-head.ensures in ( used_within r l.at l.rollover l.partway l.long l.size l.row l.k l.invariant c.loop-k-test.true typed met wanted x.survey c.if-line-ne0.false, body_most r l.at l.rollover l.partway l.long l.size l.row l.k l.invariant c.loop-k-test.true typed met wanted x.survey c.if-line-ne0.false c.requires.ppl_most head, ) in
+    let good : let l = c.loop-k in let a = c.survey_line-line.result in (l.at + a.used.0 ≤ length c.args.bytes.now) × (c.body_start-head.result + a.body.0 ≤ 262152) = let l = c.loop-k in let x = c.survey_line-line.ensures in let met = c.number_line-numbered.ensures.rollover_value in let wanted = c.number_line-numbered.ensures.number_value in let r = raster_of c.args.l c.args.bytes.now in let typed = c.other_type-to.ensures in let head = c.body_start-head.ensures in (used_within r l.at l.rollover l.partway l.long l.size l.row l.k l.invariant c.loop-k-test.true typed met wanted x.survey c.if-line-ne0.false, body_most r l.at l.rollover l.partway l.long l.size l.row l.k l.invariant c.loop-k-test.true typed met wanted x.survey c.if-line-ne0.false c.requires.ppl_most head) in
     omega (arith, good.0)
 
 pub overflow_add-k : goal.overflow_add-k

@@ -1,6 +1,6 @@
-use Rattle.std.proofs.Common.{◌+◌, ◌-◌, ◌≤◌, sym, ◌∙◌, length, arith, rules}
+use Rattle.std.proofs.Common.{◌-◌}
 use Rattle.layout.specs.Chain.{raster_of}
-use Rattle.transcode.proofs.Laws.Survey.{SurveyAt, survey_first, row_kept, survey_refused, used_within, body_most, survey_next, survey_done}
+use Rattle.transcode.proofs.Laws.Survey.{SurveyAt}
 use Rattle.transcode.proofs.survey_lines.Given as goal
 
 abbrev pub invariant-loop-k : goal.invariant-loop-k

@@ -1,4 +1,4 @@
-use Rattle.std.proofs.Common.{◌≤◌, sym, ◌∙◌, length, length-take-le, arith, rules}
+use Rattle.std.proofs.Common.{◌≤◌, sym, ◌∙◌, length, length-take-le, arith}
 use Rattle.transcode.proofs.Laws.Whole.{by_file, width}
 use Rattle.transcode.proofs.transcode_by.Goals as goal
 

@@ -1,4 +1,4 @@
-use Rattle.std.proofs.Common.{refl, arith, rules}
+use Rattle.std.proofs.Common.{refl, arith}
 use Rattle.layout.specs.Chain.{raster_of}
 use Rattle.transcode.proofs.Laws.Whole.{Carried, layout_ready, header-length, not_planned, header_carried}
 use Rattle.transcode.proofs.transcode_sheet.Goals as goal

@@ -1,6 +1,6 @@
-use Rattle.std.proofs.Common.{◌+◌, ◌-◌, ◌≤◌, sym, ◌∙◌, length, arith, rules}
+use Rattle.std.proofs.Common.{◌+◌, ◌≤◌, sym, ◌∙◌, length, arith}
 use Rattle.layout.specs.Chain.{raster_of}
-use Rattle.transcode.proofs.Laws.Writing.{WrittenAt, write_first, at_within, line_fits, used_within, size_within, write_next, write_done}
+use Rattle.transcode.proofs.Laws.Writing.{write_first, at_within, line_fits, used_within, size_within, write_next, write_done}
 use Rattle.transcode.proofs.write_lines.Goals as goal
 
 pub loop-k-init : goal.loop-k-init
@@ -31,12 +31,12 @@ write_line-line-requires c =
 
 pub overflow_add-from : goal.overflow_add-from
 overflow_add-from c =
-    let ends : let l = c.loop-k in let a = c.write_line-line.result in (l.from + a.used.0 ≤ length c.args.bytes.now) × (l.at + a.size.0 ≤ length l.out) = let l = c.loop-k in let r = raster_of c.args.l c.args.bytes.now in let typed = c.other_type-to.ensures in let met = c.number_line-numbered.ensures.rollover_value in let wanted = c.number_line-numbered.ensures.number_value in let x = c.write_line-line.ensures.written in ( used_within r l.from l.rollover l.row c.args.out.now l.out l.at l.k l.invariant c.loop-k-test.true c.requires.lines_fit typed met wanted x, size_within r l.from l.rollover l.row c.args.out.now l.out l.at l.k l.invariant c.loop-k-test.true c.requires.lines_fit typed met wanted x, ) in
+    let ends : let l = c.loop-k in let a = c.write_line-line.result in (l.from + a.used.0 ≤ length c.args.bytes.now) × (l.at + a.size.0 ≤ length l.out) = let l = c.loop-k in let r = raster_of c.args.l c.args.bytes.now in let typed = c.other_type-to.ensures in let met = c.number_line-numbered.ensures.rollover_value in let wanted = c.number_line-numbered.ensures.number_value in let x = c.write_line-line.ensures.written in (used_within r l.from l.rollover l.row c.args.out.now l.out l.at l.k l.invariant c.loop-k-test.true c.requires.lines_fit typed met wanted x, size_within r l.from l.rollover l.row c.args.out.now l.out l.at l.k l.invariant c.loop-k-test.true c.requires.lines_fit typed met wanted x) in
     omega (arith, ends.0)
 
 pub overflow_add-at : goal.overflow_add-at
 overflow_add-at c =
-    let ends : let l = c.loop-k in let a = c.write_line-line.result in (l.from + a.used.0 ≤ length c.args.bytes.now) × (l.at + a.size.0 ≤ length l.out) = let l = c.loop-k in let r = raster_of c.args.l c.args.bytes.now in let typed = c.other_type-to.ensures in let met = c.number_line-numbered.ensures.rollover_value in let wanted = c.number_line-numbered.ensures.number_value in let x = c.write_line-line.ensures.written in ( used_within r l.from l.rollover l.row c.args.out.now l.out l.at l.k l.invariant c.loop-k-test.true c.requires.lines_fit typed met wanted x, size_within r l.from l.rollover l.row c.args.out.now l.out l.at l.k l.invariant c.loop-k-test.true c.requires.lines_fit typed met wanted x, ) in
+    let ends : let l = c.loop-k in let a = c.write_line-line.result in (l.from + a.used.0 ≤ length c.args.bytes.now) × (l.at + a.size.0 ≤ length l.out) = let l = c.loop-k in let r = raster_of c.args.l c.args.bytes.now in let typed = c.other_type-to.ensures in let met = c.number_line-numbered.ensures.rollover_value in let wanted = c.number_line-numbered.ensures.number_value in let x = c.write_line-line.ensures.written in (used_within r l.from l.rollover l.row c.args.out.now l.out l.at l.k l.invariant c.loop-k-test.true c.requires.lines_fit typed met wanted x, size_within r l.from l.rollover l.row c.args.out.now l.out l.at l.k l.invariant c.loop-k-test.true c.requires.lines_fit typed met wanted x) in
     omega (arith, ends.1, c.loop-k.invariant.same)
 
 pub overflow_add-k : goal.overflow_add-k

@@ -1,6 +1,6 @@
-use Rattle.std.proofs.Common.{◌+◌, ◌-◌, ◌≤◌, sym, ◌∙◌, length, arith, rules}
+use Rattle.std.proofs.Common.{◌-◌}
 use Rattle.layout.specs.Chain.{raster_of}
-use Rattle.transcode.proofs.Laws.Writing.{WrittenAt, write_first, at_within, line_fits, used_within, size_within, write_next, write_done}
+use Rattle.transcode.proofs.Laws.Writing.{WrittenAt}
 use Rattle.transcode.proofs.write_lines.Given as goal
 
 abbrev pub invariant-loop-k : goal.invariant-loop-k

@@ -1,4 +1,4 @@
-use Rattle.std.proofs.Common.{◌∙◌, ap, rules}
+use Rattle.std.proofs.Common.{◌∙◌, ap}
 use Rattle.encode_answer.specs.Answer.{write_numbers}
 use Rattle.transcode_parts.proofs.answer_by_lines.Goals as goal
 

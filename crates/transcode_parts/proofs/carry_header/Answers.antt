@@ -1,4 +1,4 @@
-use Rattle.std.proofs.Common.{◌∙◌, rules}
+use Rattle.std.proofs.Common.{◌∙◌}
 use Rattle.transcode_parts.specs.Headers.{with_type}
 use Rattle.transcode_parts.proofs.carry_header.Goals as goal
 

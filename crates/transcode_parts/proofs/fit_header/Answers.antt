@@ -1,4 +1,4 @@
-use Rattle.std.proofs.Common.{◌∙◌, rules}
+use Rattle.std.proofs.Common.{◌∙◌}
 use Rattle.transcode_parts.specs.Headers.{fitted}
 use Rattle.transcode_parts.proofs.fit_header.Goals as goal
 

@@ -8,29 +8,28 @@ use Rattle.std.proofs.lemmas.List.Edits.{sets}
 use Rattle.std.proofs.Math.Seq.{length-sets}
 use Rattle.std.proofs.lemmas.Bool.{eqb-false, lt-leb}
 use Rattle.units.specs.Counts.{word_bytes}
-use Rattle.units.specs.LittleEndian.{u32_at}
 use Rattle.units.specs.Over.{over, zeros}
-use Rattle.units.specs.Rules.{rule, first}
+use Rattle.units.specs.Rules.{first}
 use Rattle.units.specs.Words.{words_to_bytes}
 use Rattle.units.proofs.Laws.Over.{sets_over}
 use Rattle.layout.specs.Chain.{Raster, sheet_of, rows, statuses, good_count, end_of}
 use Rattle.layout.specs.Reading.{RasterNumbers, read_numbers, rejected_raster, raster_rejection, raster_reading, pixels_after, marks_after, count_good}
-use Rattle.layout.specs.PixelBytes.{byte_buffer_rules, bytes_rejection, bytes_reading, pixel_bytes_after, byte_marks_after}
+use Rattle.layout.specs.PixelBytes.{bytes_rejection, bytes_reading, pixel_bytes_after, byte_marks_after}
 use Rattle.layout.proofs.Laws.Chain.{length-statuses, good_most}
 use Rattle.header.proofs.Laws.Accepted.{accepted}
 use Rattle.units.proofs.Laws.Stores.{zero-bytes}
 use Rattle.layout.proofs.Laws.PixelBytes.{half_below}
 use Rattle.decode_raster.specs.Laws.Answer.{rows-bytes}
-use Rattle.isolation.specs.Statement.{ChangedInBodies, OneReading, TwoReadings, SameLine, Isolated, buffer_rejection}
+use Rattle.isolation.specs.Statement.{OneReading, TwoReadings, SameLine, buffer_rejection}
 use Rattle.isolation.proofs.Laws.OneFile.{with_bytes}
 use Rattle.isolation.proofs.Laws.TwoFiles.{same_sheet}
 use Rattle.isolation.proofs.Laws.Law.{accepted_file, isolated}
-use Rattle.answers.specs.Answer.{Call, number_bytes, is_rejection, result_of, answer_after}
+use Rattle.answers.specs.Answer.{number_bytes, is_rejection}
 use Rattle.answers.proofs.Laws.Numbers.{numbers-stored}
-use Rattle.capi.specs.Calls.{raster_size, raster_call, c_raster}
+use Rattle.capi.specs.Calls.{raster_size}
 use Rattle.capi.proofs.Laws.Reading.{rejection_from, end_within}
 use Rattle.two_c_readings.specs.Call.{Outcome, called}
-use Rattle.two_c_readings.specs.Statement.{byte_row, good_in, end_in, ByteLineIs, SameByteLine, OneCall, TwoCalls, slices_rejection, RejectedCall, IsolatedBytes, Demand3Bytes}
+use Rattle.two_c_readings.specs.Statement.{byte_row, good_in, end_in, SameByteLine, OneCall, TwoCalls, slices_rejection, RejectedCall, Demand3Bytes}
 use Rattle.two_c_readings.proofs.Laws.Rows.{same_number, same_numbers, same_marks, same_row, length-rows-bytes}
 
 -- a call's outcome is that of a reading of pixels, for the scanlines of r

@@ -1,5 +1,5 @@
 -- Rows of bytes, where the rows of pixels stand: the reading into bytes is that into pixels, for a buffer with as much room.
-use Rattle.std.specs.Prelude.{ℕ, zero, suc, ◌+◌, ◌*◌, ◌/◌, ◌≤◌, ◌<◌, ◌≡◌, refl, true, List, [], ◌∷◌, ◌++◌, length, take, eqb}
+use Rattle.std.specs.Prelude.{ℕ, zero, suc, ◌*◌, ◌/◌, ◌<◌, ◌≡◌, List, ◌++◌, length, take, eqb}
 use Rattle.std.proofs.Common.{sym, ◌∙◌, append_assoc, zero-mul, suc-mul, arith, length-append, take_at, drop_at, inl, inr}
 use Rattle.std.proofs.Math.Path.{ap}
 use Rattle.std.proofs.Math.Bool.{cond}
@@ -10,9 +10,9 @@ use Rattle.units.specs.Words.{words_to_bytes}
 use Rattle.units.proofs.Laws.Numbers.{below_next}
 use Rattle.units.proofs.Laws.Stores.{length-bytes, bytes-append}
 use Rattle.layout.specs.Chain.{Raster, sheet_of, reading_at, rows, statuses}
-use Rattle.layout.specs.Reading.{RasterNumbers, read_numbers, rejected_raster, raster_rejection, raster_reading, pixels_after, marks_after}
+use Rattle.layout.specs.Reading.{read_numbers, rejected_raster, raster_rejection, raster_reading, pixels_after, marks_after}
 use Rattle.layout.specs.PixelBytes.{bytes_rejection, bytes_reading, pixel_bytes_after, byte_marks_after}
-use Rattle.layout.proofs.Laws.Chain.{length-rows, length-reading}
+use Rattle.layout.proofs.Laws.Chain.{length-reading}
 use Rattle.layout.proofs.Laws.PixelBytes.{bytes_rejection_lem}
 use Rattle.isolation.proofs.Laws.Buffers.{row_there}
 use Rattle.two_c_readings.specs.Statement.{byte_row}

@@ -1,4 +1,4 @@
-use Rattle.std.proofs.Common.{◌≡◌, rules}
+use Rattle.std.proofs.Common.{◌≡◌}
 use Rattle.two_c_readings.specs.Call.{outcome, called}
 use Rattle.two_c_readings.proofs.Laws.Call.{two_outcomes}
 use Rattle.two_c_readings.proofs.call_two.Goals as goal

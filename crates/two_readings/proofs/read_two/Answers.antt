@@ -1,4 +1,3 @@
-use Rattle.std.proofs.Common.{rules}
 use Rattle.two_readings.specs.Call.{ReadingOf}
 use Rattle.two_readings.proofs.Laws.Call.{two_calls}
 use Rattle.two_readings.proofs.read_two.Goals as goal

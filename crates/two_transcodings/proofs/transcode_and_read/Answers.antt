@@ -1,4 +1,4 @@
-use Rattle.std.proofs.Common.{◌≤◌, refl, sym, ◌∙◌, ap, length, length-take-le, arith, rules}
+use Rattle.std.proofs.Common.{◌≤◌, refl, sym, ◌∙◌, ap, length, length-take-le, arith}
 use Rattle.layout.specs.Reading.{RasterNumbers}
 use Rattle.transcode.proofs.Laws.Call.{number-from, size_fits, length_after}
 use Rattle.two_transcodings.specs.declared.MovedReading.{MovedReading}
@@ -32,12 +32,12 @@ returns-then-moved-ne0 c =
 
 pub slice_bounds-read_raster-end : goal.slice_bounds-read_raster-end
 slice_bounds-read_raster-end c =
-    let fits : c.transcode-moved.result.size.0 ≤ length c.transcode-moved.new.out = let a = c.args in let x = c.transcode-moved.ensures in omega ( arith, size_fits a.file.now (length a.out.now) c.transcode-moved.result x.result_value c.if-moved-ne0.false, ap length x.out_after ∙ length_after a.file.now a.out.now, ) in
+    let fits : c.transcode-moved.result.size.0 ≤ length c.transcode-moved.new.out = let a = c.args in let x = c.transcode-moved.ensures in omega (arith, size_fits a.file.now (length a.out.now) c.transcode-moved.result x.result_value c.if-moved-ne0.false, ap length x.out_after ∙ length_after a.file.now a.out.now) in
     fits
 
 pub slice_bounds-read_raster-end-2 : goal.slice_bounds-read_raster-end-2
 slice_bounds-read_raster-end-2 c =
-    let fits : c.transcode-moved.result.size.0 ≤ length c.transcode-moved.new.out = let a = c.args in let x = c.transcode-moved.ensures in omega ( arith, size_fits a.file.now (length a.out.now) c.transcode-moved.result x.result_value c.if-moved-ne0.false, ap length x.out_after ∙ length_after a.file.now a.out.now, ) in
+    let fits : c.transcode-moved.result.size.0 ≤ length c.transcode-moved.new.out = let a = c.args in let x = c.transcode-moved.ensures in omega (arith, size_fits a.file.now (length a.out.now) c.transcode-moved.result x.result_value c.if-moved-ne0.false, ap length x.out_after ∙ length_after a.file.now a.out.now) in
     sym (length-take-le c.transcode-moved.result.size.0 c.transcode-moved.new.out fits)
 
 pub returns : goal.returns

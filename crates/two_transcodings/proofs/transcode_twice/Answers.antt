@@ -1,4 +1,4 @@
-use Rattle.std.proofs.Common.{◌≤◌, refl, sym, ◌∙◌, ap, length, length-take-le, arith, rules}
+use Rattle.std.proofs.Common.{◌≤◌, refl, sym, ◌∙◌, ap, length, length-take-le, arith}
 use Rattle.encode_answer.specs.Answer.{write_numbers}
 use Rattle.transcode.proofs.Laws.Call.{size_fits, length_after}
 use Rattle.two_transcodings.specs.declared.TwoMoves.{TwoMoves}
@@ -21,12 +21,12 @@ returns-then-there-ne0 c =
 
 pub slice_bounds-transcode-end : goal.slice_bounds-transcode-end
 slice_bounds-transcode-end c =
-    let fits : c.transcode-there.result.size.0 ≤ length c.transcode-there.new.out = let a = c.args in let x = c.transcode-there.ensures in omega ( arith, size_fits a.file.now (length a.between.now) c.transcode-there.result x.result_value c.if-there-ne0.false, ap length x.out_after ∙ length_after a.file.now a.between.now, ) in
+    let fits : c.transcode-there.result.size.0 ≤ length c.transcode-there.new.out = let a = c.args in let x = c.transcode-there.ensures in omega (arith, size_fits a.file.now (length a.between.now) c.transcode-there.result x.result_value c.if-there-ne0.false, ap length x.out_after ∙ length_after a.file.now a.between.now) in
     fits
 
 pub slice_bounds-transcode-end-2 : goal.slice_bounds-transcode-end-2
 slice_bounds-transcode-end-2 c =
-    let fits : c.transcode-there.result.size.0 ≤ length c.transcode-there.new.out = let a = c.args in let x = c.transcode-there.ensures in omega ( arith, size_fits a.file.now (length a.between.now) c.transcode-there.result x.result_value c.if-there-ne0.false, ap length x.out_after ∙ length_after a.file.now a.between.now, ) in
+    let fits : c.transcode-there.result.size.0 ≤ length c.transcode-there.new.out = let a = c.args in let x = c.transcode-there.ensures in omega (arith, size_fits a.file.now (length a.between.now) c.transcode-there.result x.result_value c.if-there-ne0.false, ap length x.out_after ∙ length_after a.file.now a.between.now) in
     sym (length-take-le c.transcode-there.result.size.0 c.transcode-there.new.out fits)
 
 pub returns : goal.returns

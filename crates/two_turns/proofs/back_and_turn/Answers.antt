@@ -1,4 +1,3 @@
-use Rattle.std.proofs.Common.{rules}
 use Rattle.two_turns.specs.Call.{TurnCall, TurnBackCall}
 use Rattle.two_turns.proofs.Laws.Call.{picture-again}
 use Rattle.two_turns.proofs.back_and_turn.Goals as goal

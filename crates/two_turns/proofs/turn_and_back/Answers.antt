@@ -1,4 +1,3 @@
-use Rattle.std.proofs.Common.{rules}
 use Rattle.two_turns.specs.Call.{TurnCall, TurnBackCall}
 use Rattle.two_turns.proofs.Laws.Call.{sheet-again}
 use Rattle.two_turns.proofs.turn_and_back.Goals as goal

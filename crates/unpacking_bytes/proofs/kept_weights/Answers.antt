@@ -1,4 +1,4 @@
-use Rattle.std.proofs.Common.{refl, ◌∙◌, replicate, rules}
+use Rattle.std.proofs.Common.{refl, ◌∙◌, replicate}
 use Rattle.units.specs.Words.{words_to_bytes}
 use Rattle.packing.specs.Weights.{powers}
 use Rattle.packing.proofs.Laws.Weights.{either_half}

@@ -1,7 +1,5 @@
-use Rattle.std.proofs.Common.{◌-◌, ◌≤◌, ◌<◌, zero-le, ◌≡◌, refl, sym, ◌∙◌, length, drop, length-set, rules, arith}
+use Rattle.std.proofs.Common.{◌<◌, zero-le, refl, sym, ◌∙◌, length, drop, length-set, arith}
 use lib.ListN.{length-map}
-use lib.Seq.{sets}
-use Rattle.units.specs.Over.{over}
 use Rattle.units.proofs.Laws.Over.{sets_over, sets_past, over_all}
 use Rattle.packing.specs.Weights.{pick, picked}
 use Rattle.packing.proofs.Laws.Weights.{pick_next}

@@ -1,10 +1,7 @@
-use Rattle.std.proofs.Common.{◌-◌, ◌≤◌, ◌<◌, zero-le, ◌≡◌, refl, sym, ◌∙◌, length, drop, length-set, rules, arith}
-use lib.ListN.{length-map}
+use Rattle.std.proofs.Common.{◌-◌, ◌≤◌, ◌≡◌, length, drop}
 use lib.Seq.{sets}
 use Rattle.units.specs.Over.{over}
-use Rattle.units.proofs.Laws.Over.{sets_over, sets_past, over_all}
-use Rattle.packing.specs.Weights.{pick, picked}
-use Rattle.packing.proofs.Laws.Weights.{pick_next}
+use Rattle.packing.specs.Weights.{picked}
 use Rattle.unpacking_bytes.proofs.put_byte.Given as goal
 
 abbrev pub invariant-loop-j : goal.invariant-loop-j

@@ -1,7 +1,7 @@
-use Rattle.std.proofs.Common.{ℕ, ◌+◌, ◌≡◌, sym, ◌∙◌, ap, List, ◌++◌, arith, length, get_or, length-take-le, rules}
+use Rattle.std.proofs.Common.{ℕ, ◌+◌, ◌≡◌, sym, ◌∙◌, ap, List, ◌++◌, arith, length, get_or, length-take-le}
 use lib.ListN.{length-map}
 use Rattle.units.specs.Words.{words_to_bytes}
-use Rattle.packing.specs.Weights.{powers, pick, picked}
+use Rattle.packing.specs.Weights.{powers, picked}
 use Rattle.packing.proofs.Laws.Weights.{word_picked-bytes}
 use Rattle.unpacking.proofs.Laws.Unpacking.{both_put}
 use Rattle.unpacking_bytes.proofs.put_word.Goals as goal

@@ -1,7 +1,5 @@
-use Rattle.std.proofs.Common.{ℕ, ◌+◌, ◌-◌, ◌*◌, ◌%◌, ◌≤◌, zero-le, ◌≡◌, refl, sym, ◌∙◌, ap, List, ◌++◌, length, drop, length-take, length-drop, rules, arith}
-use lib.Seq.{sets}
+use Rattle.std.proofs.Common.{ℕ, ◌+◌, zero-le, ◌≡◌, refl, sym, ◌∙◌, ap, List, ◌++◌, length, drop, length-drop, rules, arith}
 use Rattle.units.specs.LittleEndian.{u16_at}
-use Rattle.units.specs.Over.{over}
 use Rattle.units.specs.Words.{words, words_to_bytes}
 use Rattle.units.proofs.Laws.Over.{sets_over}
 use Rattle.packing.specs.Packing.{bits, word_bits}

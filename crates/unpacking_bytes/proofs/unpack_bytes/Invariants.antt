@@ -1,12 +1,8 @@
-use Rattle.std.proofs.Common.{ℕ, ◌+◌, ◌-◌, ◌*◌, ◌%◌, ◌≤◌, zero-le, ◌≡◌, refl, sym, ◌∙◌, ap, List, ◌++◌, length, drop, length-take, length-drop, rules, arith}
+use Rattle.std.proofs.Common.{◌-◌, ◌*◌, ◌%◌, ◌≤◌, ◌≡◌, length, drop}
 use lib.Seq.{sets}
-use Rattle.units.specs.LittleEndian.{u16_at}
 use Rattle.units.specs.Over.{over}
 use Rattle.units.specs.Words.{words, words_to_bytes}
-use Rattle.units.proofs.Laws.Over.{sets_over}
-use Rattle.packing.specs.Packing.{bits, word_bits}
-use Rattle.packing.proofs.Laws.Weights.{bytes_next}
-use Rattle.unpacking.proofs.Laws.Unpacking.{word_next, word_last, length_word, length_pixel_bytes}
+use Rattle.packing.specs.Packing.{word_bits}
 use Rattle.unpacking_bytes.proofs.unpack_bytes.Given as goal
 
 abbrev pub invariant-loop-at : goal.invariant-loop-at

@@ -1,4 +1,4 @@
-use Rattle.std.proofs.Common.{sym, rules}
+use Rattle.std.proofs.Common.{sym}
 use Rattle.codec.specs.Table.{codec_of}
 use Rattle.decode_body.proofs.Laws.ByType.{no_status}
 use Rattle.decode_body.proofs.by_type.body_status.Goals as goal

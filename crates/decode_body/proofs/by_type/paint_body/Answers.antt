@@ -1,5 +1,4 @@
-use Rattle.std.proofs.Common.{sym, ◌∙◌, ap, List, ℕ, rules}
-use Rattle.units.specs.Over.{over}
+use Rattle.std.proofs.Common.{sym, ◌∙◌}
 use Rattle.units.specs.Words.{words}
 use Rattle.units.proofs.Laws.Over.{over_nil, over_taken}
 use Rattle.codec.specs.Table.{codec_of}

@@ -1,4 +1,4 @@
-use Rattle.std.proofs.Common.{sym, ◌∙◌, length, rules}
+use Rattle.std.proofs.Common.{sym, ◌∙◌, length}
 use Rattle.units.specs.Over.{zeros}
 use Rattle.units.specs.Words.{words_to_bytes}
 use Rattle.units.proofs.Laws.Over.{over_nil}

@@ -1,4 +1,4 @@
-use Rattle.std.proofs.Common.{lt-ltb, le-ltb, ◌∙◌, rules}
+use Rattle.std.proofs.Common.{lt-ltb, le-ltb, ◌∙◌}
 use Rattle.decode_body.proofs.byte_pixels.bytes_extent.Goals as goal
 
 pub returns-then-rest-p : goal.returns-then-rest-p

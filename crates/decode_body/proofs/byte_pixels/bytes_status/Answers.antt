@@ -1,4 +1,4 @@
-use Rattle.std.proofs.Common.{◌+◌, ◌%◌, length, arith, eq-eqb, ne_eqb, rules}
+use Rattle.std.proofs.Common.{◌+◌, ◌%◌, length, arith, eq-eqb, ne_eqb}
 use Rattle.decode_body.proofs.byte_pixels.bytes_status.Goals as goal
 
 pub returns-then-body-p : goal.returns-then-body-p

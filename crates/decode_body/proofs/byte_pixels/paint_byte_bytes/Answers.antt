@@ -1,4 +1,4 @@
-use Rattle.std.proofs.Common.{ℕ, ◌≤◌, ◌≡◌, sym, ◌∙◌, ap, List, arith, length, take, length-take-le, rules}
+use Rattle.std.proofs.Common.{ℕ, ◌≤◌, ◌≡◌, sym, ◌∙◌, ap, List, arith, length, take, length-take-le}
 use Rattle.units.specs.Over.{over, zeros}
 use Rattle.units.specs.Words.{word_count, words_to_bytes}
 use Rattle.units.proofs.Laws.Over.{take_least}

@@ -1,4 +1,4 @@
-use Rattle.std.proofs.Common.{ℕ, ◌≤◌, ◌<◌, min, ◌≡◌, sym, ◌∙◌, ap, List, arith, length, get_or, take, length-take-le, rules}
+use Rattle.std.proofs.Common.{ℕ, ◌≤◌, min, ◌≡◌, sym, ◌∙◌, ap, List, arith, length, take, length-take-le}
 use Rattle.units.specs.Counts.{word_bytes}
 use Rattle.units.specs.Over.{over, zeros}
 use Rattle.units.specs.Words.{word_count}

@@ -1,4 +1,4 @@
-use Rattle.std.proofs.Common.{◌≤◌, lt-ltb, le-ltb, ◌≡◌, ◌∙◌, ap, arith, rules}
+use Rattle.std.proofs.Common.{◌≤◌, lt-ltb, le-ltb, ◌≡◌, ◌∙◌, ap, arith}
 use Rattle.units.specs.Counts.{word_bytes}
 use Rattle.units.specs.Words.{word_count}
 use Rattle.codec.specs.Codec.{taken}

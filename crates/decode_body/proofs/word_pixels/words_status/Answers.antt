@@ -1,4 +1,4 @@
-use Rattle.std.proofs.Common.{eq-eqb, ne_eqb, sym, ◌∙◌, rules}
+use Rattle.std.proofs.Common.{eq-eqb, ne_eqb, sym, ◌∙◌}
 use Rattle.decode_body.proofs.word_pixels.words_status.Goals as goal
 
 pub returns-then-word_count-p : goal.returns-then-word_count-p

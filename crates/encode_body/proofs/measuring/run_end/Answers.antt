@@ -1,5 +1,4 @@
-use Rattle.std.proofs.Common.{rules, length, drop, arith, ◌-◌, ◌+◌, ◌≡◌, refl}
-use Rattle.codec.specs.Leading.{leading}
+use Rattle.std.proofs.Common.{arith, refl}
 use Rattle.codec.proofs.Laws.Leading.{leading_more, leading_stop, leading_end}
 use Rattle.encode_body.proofs.measuring.run_end.Goals as goal
 

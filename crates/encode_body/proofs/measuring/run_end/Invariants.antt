@@ -1,6 +1,5 @@
-use Rattle.std.proofs.Common.{rules, length, drop, arith, ◌-◌, ◌+◌, ◌≡◌, refl}
+use Rattle.std.proofs.Common.{length, drop, ◌-◌, ◌+◌, ◌≡◌}
 use Rattle.codec.specs.Leading.{leading}
-use Rattle.codec.proofs.Laws.Leading.{leading_more, leading_stop, leading_end}
 use Rattle.encode_body.proofs.measuring.run_end.Given as goal
 
 abbrev pub invariant-loop-i : goal.invariant-loop-i

@@ -1,9 +1,7 @@
-use Rattle.std.proofs.Common.{rules, length, arith, ◌-◌, ◌+◌, ◌*◌, [], ◌∷◌, ◌≡◌, refl, ap}
-use lib.Seq.{sets}
+use Rattle.std.proofs.Common.{length, arith, ◌-◌, [], ◌∷◌, refl, ap}
 use Rattle.cutting.proofs.Laws.Rule.{pairs-cut}
-use Rattle.units.specs.Words.{words_to_bytes}
 use Rattle.cutting.specs.Pieces.{value_pieces}
-use Rattle.encode_body.proofs.Laws.Left.{Left, left_word, left_none}
+use Rattle.encode_body.proofs.Laws.Left.{left_word, left_none}
 use Rattle.encode_body.proofs.pair_body.put_pairs.Goals as goal
 
 pub loop-left-init : goal.loop-left-init

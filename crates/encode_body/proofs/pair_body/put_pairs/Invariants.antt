@@ -1,9 +1,8 @@
-use Rattle.std.proofs.Common.{rules, length, arith, ◌-◌, ◌+◌, ◌*◌, [], ◌∷◌, ◌≡◌, refl, ap}
+use Rattle.std.proofs.Common.{length, ◌+◌, ◌*◌, ◌≡◌}
 use lib.Seq.{sets}
-use Rattle.cutting.proofs.Laws.Rule.{pairs-cut}
 use Rattle.units.specs.Words.{words_to_bytes}
 use Rattle.cutting.specs.Pieces.{value_pieces}
-use Rattle.encode_body.proofs.Laws.Left.{Left, left_word, left_none}
+use Rattle.encode_body.proofs.Laws.Left.{Left}
 use Rattle.encode_body.proofs.pair_body.put_pairs.Given as goal
 
 abbrev pub invariant-loop-left : goal.invariant-loop-left

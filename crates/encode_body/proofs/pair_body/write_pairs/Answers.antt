@@ -1,11 +1,10 @@
-use Rattle.std.proofs.Common.{rules, length, drop, get_or, length-append, arith, ◌-◌, ◌+◌, ◌*◌, ◌≤◌, zero-le, ◌≡◌, refl, ap}
+use Rattle.std.proofs.Common.{length, drop, get_or, length-append, arith, ◌-◌, ◌+◌, zero-le, refl, ap}
 use Rattle.codec.proofs.Laws.PairWriting.{next_pair, no_pair, length-pair_words}
 use Rattle.units.proofs.Laws.Stores.{length-bytes}
 use Rattle.codec.proofs.Laws.Leading.{leading_within}
 use Rattle.cutting.specs.Pieces.{value_pieces}
 use Rattle.codec.specs.PairPixels.{pair_body, pair_words}
-use Rattle.encode_body.proofs.Laws.Left.{Left, left_start, left_more, left_none}
-use Rattle.units.specs.Over.{over}
+use Rattle.encode_body.proofs.Laws.Left.{left_start, left_more, left_none}
 use Rattle.encode_body.proofs.pair_body.write_pairs.Goals as goal
 
 pub loop-i-init : goal.loop-i-init

@@ -1,9 +1,7 @@
-use Rattle.std.proofs.Common.{[], ◌∷◌, rules, length, arith, ◌-◌, ◌+◌, ◌*◌, ◌≡◌, refl, ap}
-use lib.Seq.{sets}
+use Rattle.std.proofs.Common.{[], ◌∷◌, length, arith, ◌-◌, refl, ap}
 use Rattle.cutting.proofs.Laws.Rule.{runs_cut}
-use Rattle.units.specs.Words.{words_to_bytes}
 use Rattle.cutting.specs.Pieces.{level_pieces}
-use Rattle.encode_body.proofs.Laws.Left.{Left, left_word, left_none}
+use Rattle.encode_body.proofs.Laws.Left.{left_word, left_none}
 use Rattle.encode_body.proofs.run_body.put_run.Goals as goal
 
 pub loop-left-init : goal.loop-left-init

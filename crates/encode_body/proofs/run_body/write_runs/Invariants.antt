@@ -1,14 +1,9 @@
-use Rattle.std.proofs.Common.{ℕ, ◌-◌, ◌+◌, ◌*◌, ◌≤◌, List, [], ◌∷◌, length, length-append, rules, arith, ◌≡◌, refl, ◌∙◌, ap}
+use Rattle.std.proofs.Common.{◌-◌, ◌+◌, ◌*◌, ◌≤◌, length, ◌≡◌}
 use lib.Seq.{sets}
-use Rattle.units.proofs.Laws.Stores.{length-bytes}
-use Rattle.encode_body.proofs.Laws.Left.{left_start, Left, left_word, left_none, left_more}
-use Rattle.codec.proofs.Laws.RunWriting.{words_from, first_run, next_run, no_run_on, no_run_off, length-run_words}
-use Rattle.codec.specs.Leading.{leading}
-use Rattle.codec.proofs.Laws.Leading.{leading_within}
-use Rattle.cutting.specs.Pieces.{level_pieces}
-use Rattle.codec.specs.RunPixels.{run_words, run_body}
+use Rattle.encode_body.proofs.Laws.Left.{Left}
+use Rattle.codec.proofs.Laws.RunWriting.{words_from}
+use Rattle.codec.specs.RunPixels.{run_body}
 use Rattle.units.specs.Words.{words_to_bytes}
-use Rattle.units.specs.Over.{over}
 use Rattle.encode_body.proofs.run_body.write_runs.Given as goal
 
 abbrev pub invariant-loop-i : goal.invariant-loop-i

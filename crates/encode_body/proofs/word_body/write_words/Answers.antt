@@ -1,4 +1,4 @@
-use Rattle.std.proofs.Common.{arith, rules}
+use Rattle.std.proofs.Common.{arith}
 use Rattle.units.proofs.Laws.Stores.{length-bytes}
 use Rattle.encode_body.proofs.word_body.write_words.Goals as goal
 

@@ -1,4 +1,4 @@
-use Rattle.std.proofs.Common.{◌≡◌, ◌∙◌, ap, Bool, cond, arith, rules, eq-eqb, ne_eqb}
+use Rattle.std.proofs.Common.{◌≡◌, ◌∙◌, ap, Bool, cond, arith, eq-eqb, ne_eqb}
 use Rattle.encode_header.proofs.head.header_size.Goals as goal
 
 pub returns-then-table-eq0 : goal.returns-then-table-eq0

@@ -1,4 +1,4 @@
-use Rattle.std.proofs.Common.{◌∙◌, rules}
+use Rattle.std.proofs.Common.{◌∙◌}
 use Rattle.encode_header.proofs.Laws.Header.{with_floats}
 use Rattle.encode_header.proofs.head.put_floats.Goals as goal
 

@@ -1,4 +1,4 @@
-use Rattle.std.proofs.Common.{◌<◌, ◌∙◌, arith, rules}
+use Rattle.std.proofs.Common.{◌<◌, ◌∙◌, arith}
 use Rattle.units.proofs.Laws.Stores.{high_byte}
 use Rattle.encode_header.proofs.Laws.Header.{with_sizes}
 use Rattle.encode_header.proofs.head.put_sizes.Goals as goal

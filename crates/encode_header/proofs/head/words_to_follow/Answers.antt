@@ -1,4 +1,4 @@
-use Rattle.std.proofs.Common.{arith, rules}
+use Rattle.std.proofs.Common.{arith}
 use Rattle.encode_header.proofs.Laws.Header.{blocks_are}
 use Rattle.encode_header.proofs.head.words_to_follow.Goals as goal
 

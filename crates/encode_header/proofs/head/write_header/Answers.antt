@@ -1,4 +1,4 @@
-use Rattle.std.proofs.Common.{sym, length-take-le, rules}
+use Rattle.std.proofs.Common.{sym, length-take-le}
 use Rattle.encode_header.proofs.Laws.Header.{header-none, header_put}
 use Rattle.encode_header.proofs.head.write_header.Goals as goal
 

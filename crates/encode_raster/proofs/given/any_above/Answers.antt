@@ -1,4 +1,4 @@
-use Rattle.std.proofs.Common.{◌≡◌, ◌+◌, ◌-◌, Bool, ◌||◌, length, drop, sym, refl, ap, ◌∙◌, arith, rules}
+use Rattle.std.proofs.Common.{◌+◌, Bool, ◌||◌, drop, sym, refl, ap, ◌∙◌, arith}
 use Rattle.encode_raster.proofs.Laws.Limits.{above_next, above_end}
 use Rattle.encode_raster.specs.Writing.{any_above}
 use Rattle.encode_raster.proofs.given.any_above.Goals as goal

@@ -1,5 +1,4 @@
-use Rattle.std.proofs.Common.{◌≡◌, ◌+◌, ◌-◌, Bool, ◌||◌, length, drop, sym, refl, ap, ◌∙◌, arith, rules}
-use Rattle.encode_raster.proofs.Laws.Limits.{above_next, above_end}
+use Rattle.std.proofs.Common.{◌≡◌, ◌-◌, ◌||◌, length, drop}
 use Rattle.encode_raster.specs.Writing.{any_above}
 use Rattle.encode_raster.proofs.given.any_above.Given as goal
 

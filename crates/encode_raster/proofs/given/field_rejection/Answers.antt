@@ -1,5 +1,4 @@
-use Rattle.std.proofs.Common.{◌≡◌, ◌++◌, sym, ◌∙◌, rules, le-ltb, lt-ltb}
-use borrow.Author.Tests.{not-true, not-false}
+use Rattle.std.proofs.Common.{◌≡◌, ◌++◌, sym, ◌∙◌, le-ltb, lt-ltb}
 use Rattle.units.specs.Rules.{first}
 use Rattle.units.proofs.Laws.Numbers.{product_fits}
 use Rattle.units.proofs.Laws.Rules.{first_here, first_later}

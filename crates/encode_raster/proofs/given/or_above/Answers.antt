@@ -1,4 +1,3 @@
-use Rattle.std.proofs.Common.{rules}
 use Rattle.encode_raster.proofs.given.or_above.Goals as goal
 
 pub returns : goal.returns

@@ -1,4 +1,4 @@
-use Rattle.std.proofs.Common.{eq-eqb, ne_eqb, List, ℕ, ◌≡◌, sym, ◌∙◌, ap, rules}
+use Rattle.std.proofs.Common.{eq-eqb, ne_eqb, List, ℕ, ◌≡◌, sym, ◌∙◌, ap}
 use Rattle.header.specs.Reading.{HeaderNumbers, header_reading, rejected_numbers, field_numbers}
 use Rattle.header.specs.Rejections.{rejection_to22}
 use Rattle.fields.specs.declared.Fields.{Fields}

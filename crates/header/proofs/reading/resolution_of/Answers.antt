@@ -1,4 +1,4 @@
-use Rattle.std.proofs.Common.{lt-ltb, le-ltb, eq-eqb, ne_eqb, rules}
+use Rattle.std.proofs.Common.{lt-ltb, le-ltb, eq-eqb, ne_eqb}
 use Rattle.header.proofs.reading.resolution_of.Goals as goal
 
 pub returns-then-drs-eq0 : goal.returns-then-drs-eq0

@@ -1,4 +1,4 @@
-use Rattle.std.proofs.Common.{arith, rules}
+use Rattle.std.proofs.Common.{arith}
 use Rattle.header.proofs.rejection.entry_start.Goals as goal
 
 pub overflow_add-result : goal.overflow_add-result

@@ -1,4 +1,4 @@
-use Rattle.std.proofs.Common.{List, ◌++◌, ◌≡◌, sym, ◌∙◌, ap, ℕ, rules}
+use Rattle.std.proofs.Common.{List, ◌++◌, ◌≡◌, sym, ◌∙◌, ap, ℕ}
 use Rattle.units.specs.Counts.{bytes_in}
 use Rattle.units.specs.Rules.{Rule, first}
 use Rattle.fields.specs.declared.Fields.{Fields}

@@ -1,6 +1,5 @@
-use Rattle.std.proofs.Common.{refl, ap, ◌≡◌, sym, ◌∙◌, true, false, rules, ℕ, ◌+◌, ◌-◌}
+use Rattle.std.proofs.Common.{refl, ap, sym, ◌∙◌, true, false, ℕ, ◌+◌}
 use Rattle.header.specs.Rejections.{slot_at, slot_occurs, shares_slot}
-use Rattle.units.specs.Scan.{scan}
 use Rattle.units.proofs.Laws.Scan.{scan_hit, scan_miss, scan-end}
 use Rattle.header.proofs.rejection.shares_slot.Goals as goal
 

@@ -1,4 +1,3 @@
-use Rattle.std.proofs.Common.{rules}
 use Rattle.header.proofs.rejection.slot_at.Goals as goal
 
 pub returns : goal.returns

@@ -1,4 +1,4 @@
-use Rattle.std.proofs.Common.{refl, ◌≡◌, sym, ◌∙◌, eqb, true, false, eq-eqb, ne_eqb, rules, ℕ, ◌-◌}
+use Rattle.std.proofs.Common.{refl, sym, ◌∙◌, eqb, true, false, eq-eqb, ne_eqb, ℕ}
 use Rattle.header.specs.Rejections.{slot_at, slot_occurs}
 use Rattle.units.proofs.Laws.Scan.{scan_hit, scan_miss, scan-end}
 use Rattle.header.proofs.rejection.slot_occurs.Goals as goal

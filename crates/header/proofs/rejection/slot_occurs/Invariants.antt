@@ -1,6 +1,5 @@
-use Rattle.std.proofs.Common.{refl, ◌≡◌, sym, ◌∙◌, eqb, true, false, eq-eqb, ne_eqb, rules, ℕ, ◌-◌}
-use Rattle.header.specs.Rejections.{slot_at, slot_occurs}
-use Rattle.units.proofs.Laws.Scan.{scan_hit, scan_miss, scan-end}
+use Rattle.std.proofs.Common.{◌≡◌, ◌-◌}
+use Rattle.header.specs.Rejections.{slot_occurs}
 use Rattle.header.proofs.rejection.slot_occurs.Given as goal
 
 abbrev pub invariant-loop-i : goal.invariant-loop-i

@@ -1,4 +1,4 @@
-use Rattle.std.proofs.Common.{◌≡◌, sym, ◌∙◌, arith, lt-ltb, le-ltb, eq-eqb, ne_eqb, rules}
+use Rattle.std.proofs.Common.{◌≡◌, sym, ◌∙◌, arith, lt-ltb, le-ltb, eq-eqb, ne_eqb}
 use Rattle.units.specs.Counts.{bytes_of_blocks}
 use Rattle.fields.specs.Fields.{header_blocks}
 use Rattle.header.specs.Rejections.{entry_start}

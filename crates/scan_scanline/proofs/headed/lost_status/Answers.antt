@@ -1,4 +1,4 @@
-use Rattle.std.proofs.Common.{arith, sym, rules}
+use Rattle.std.proofs.Common.{arith, sym}
 use Rattle.layout.proofs.Laws.Line.{lost_short, lost_identifier, lost-following, lost-body, lost-not}
 use Rattle.scan_scanline.proofs.headed.lost_status.Goals as goal
 

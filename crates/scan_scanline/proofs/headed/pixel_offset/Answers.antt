@@ -1,4 +1,4 @@
-use Rattle.std.proofs.Common.{arith, sym, ◌∙◌, rules}
+use Rattle.std.proofs.Common.{arith, sym, ◌∙◌}
 use Rattle.layout.proofs.Laws.Line.{head_word}
 use Rattle.scan_scanline.proofs.headed.pixel_offset.Goals as goal
 

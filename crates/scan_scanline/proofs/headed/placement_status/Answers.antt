@@ -1,4 +1,4 @@
-use Rattle.std.proofs.Common.{arith, eq-eqb, ne_eqb, lt-ltb, le-ltb, rules}
+use Rattle.std.proofs.Common.{arith, eq-eqb, ne_eqb, lt-ltb, le-ltb}
 use Rattle.units.specs.LittleEndian.{u16_at}
 use Rattle.layout.specs.Scanline.{head_of, pixel_offset}
 use Rattle.layout.proofs.Laws.Line.{head_word}

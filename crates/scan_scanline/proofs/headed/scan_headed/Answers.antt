@@ -1,4 +1,4 @@
-use Rattle.std.proofs.Common.{take, drop, arith, refl, ◌≡◌, sym, ◌∙◌, ap, ℕ, ◌+◌, ◌-◌, List, Bool, true, false, cond, rules}
+use Rattle.std.proofs.Common.{take, drop, arith, refl, ◌≡◌, sym, ◌∙◌, ap, ℕ, ◌+◌, ◌-◌, List, Bool, true, false, cond}
 use Rattle.units.specs.declared.Bytes.{Bytes}
 use Rattle.units.specs.Counts.{n_bytes, bytes_of_words}
 use Rattle.units.specs.Rules.{first}

@@ -1,4 +1,4 @@
-use Rattle.std.proofs.Common.{List, true, false, ◌≡◌, sym, ◌∙◌, ap, ℕ, rules}
+use Rattle.std.proofs.Common.{List, true, false, ◌≡◌, sym, ◌∙◌, ap, ℕ}
 use Rattle.units.specs.Counts.{n_bytes}
 use Rattle.codec.specs.declared.Extent.{Extent}
 use Rattle.codec.specs.Table.{body_extent}

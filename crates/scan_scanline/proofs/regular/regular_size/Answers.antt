@@ -1,4 +1,4 @@
-use Rattle.std.proofs.Common.{eq-eqb, ne_eqb, rules}
+use Rattle.std.proofs.Common.{eq-eqb, ne_eqb}
 use Rattle.scan_scanline.proofs.regular.regular_size.Goals as goal
 
 pub returns-then-scn-eq1 : goal.returns-then-scn-eq1
