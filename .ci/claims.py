@@ -21,7 +21,7 @@ WORDS = {'ensures', 'requires', 'fact', 'header', 'sheets', 'pairs', 'write', 's
 
 def listed_crates():
     lines = (re.sub('#.*', '', line) for line in (ROOT / 'crates.txt').read_text().splitlines())
-    return {line.split(':')[0].strip() for line in lines if ':' in line}
+    return {line.split(':')[0].split()[0] for line in lines if ':' in line}
 
 
 def edits():
