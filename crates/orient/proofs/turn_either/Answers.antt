@@ -1,4 +1,4 @@
-use Rattle.std.proofs.Common.{ℕ, ◌*◌, ◌≤◌, sym, ◌∙◌, length, ne_eqb}
+use Rattle.std.proofs.Common.{◌≡◌, ℕ, ◌*◌, ◌≤◌, sym, ◌∙◌, length, ne_eqb}
 use Rattle.orient.specs.Turning.{turn_rejection}
 use Rattle.orient.proofs.Laws.Moving.{by_rows, by_columns, back_by_columns}
 use Rattle.orient.proofs.Laws.Turning.{has_room}
