@@ -28,7 +28,7 @@ PLACED = re.compile(r'(?:note: )?(?:\./)?((?:src|specs|proofs)/\S+?):(\d+):\d+: 
 # Proofs of a function, by the file that has them.
 PROOFS = re.compile(r'proofs/(.*)/(?:Answers|Invariants|Proof)\.antt')
 # What the prover says where a proof does not fit the code any more.
-UNFIT = re.compile(r"is not in scope|has no `|has no field|was not admitted|no field `|takes (more|fewer) arguments|too many arguments"
+UNFIT = re.compile(r"is not in scope|has no `|has no field|`: (record|module) `|was not admitted|no field `|takes (more|fewer) arguments|too many arguments"
                    r"|applied to an argument but has type|λ has \d+ binder|has the type `[^`]*goal\.|(expected|has) type `goal\.")
 CLAUSE = re.compile(r'\b(?:requires|ensures|ghost|decreases)\b\*?\s*\w*\s*\{')
 TOKEN = re.compile(r"\d\w*(?:\.\d\w*)?|'\w+|[^\W\d]\w*|::|->|=>|\.\.=?|<<=?|>>=?|[-+*/%&|^=!<>]=|&&|\|\||\S")
@@ -289,8 +289,9 @@ def faults_of_proofs(text):
     for path, old, new in pairs(text):
         if path.startswith('proofs/') and PROOFS.fullmatch(path):
             was, now = (re.findall(r"[\w'-]+|\S", line) for line in (old, new))
-            named = lambda word: '-' in word and word[0].isalpha()
-            if len(was) != len(now) or any(a != b and not (named(a) and named(b) and names.setdefault(a, b) == b) for a, b in zip(was, now)):
+            # a goal, a case, or a step of the code, whose facts are taken
+            named = lambda words, i: words[i][0].isalpha() and ('-' in words[i] or words[i - 2:i] == ['c', '.'] and words[i + 1:i + 2] == ['.'])
+            if len(was) != len(now) or any(was[i] != now[i] and not (named(was, i) and named(now, i) and names.setdefault(was[i], now[i]) == now[i]) for i in range(len(was))):
                 yield f'it changes a proof and not only its names: {old.strip()[:80]}'
         elif path.startswith('proofs/'):
             yield f'it changes {path}: a law is what refuses an edit'

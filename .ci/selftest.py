@@ -94,6 +94,7 @@ PROOF = 'proofs/little_endian/u16_at/Answers.antt'
 REFUSED = f'{SAYS}./{PROOF}:10:13: error: `returns`: `omega`: the goal does not follow'
 LAW = f'{SAYS}./proofs/Laws/Words.antt:13:25: error: `length-words`: computed as far as they go, the two types are `Path ℕ 0 1` (expected) and'
 UNFIT = f'{SAYS}./{PROOF}:10:13: error: `returns`: record `Rattle.units.proofs.little_endian.u16_at.Lts.After` has no field `if-at-s`'
+NEAREST = f'{SAYS}./{PROOF}:15:32: error: `returns`: record `Rattle.units.proofs.little_endian.u16_at.Lts.View.In-After` (nearest: .u32_at)'
 SHIFTED = f'{SAYS}./{PROOF}:10:13: error: `returns`: expected type `goal.returns-then-at-s`, but this has type `goal.returns`'
 BINDERS = f'{SAYS}./{PROOF}:69:10: error: `returns`: this λ has 2 binders, but its type has room for only 1'
 APPLIED = f'{SAYS}./{PROOF}:10:57: error: `returns`: this is applied to an argument but has type `a < b`'
@@ -132,6 +133,7 @@ LOGS = [
     ('a refusal by a name that is gone', NAMES, 'u16_at returns', 'only because'),
     ('a refusal by a limit', LIMITED, 'u16_at returns', 'only by a limit'),
     ('a proof that names other goals', UNFIT, 'little_endian/u16_at returns', 'does not fit'),
+    ('a proof that takes the facts of another call', NEAREST, 'little_endian/u16_at returns', 'does not fit'),
     ('a proof that is shifted', SHIFTED, 'little_endian/u16_at returns', 'does not fit'),
     ('a proof with other parts', BINDERS, 'little_endian/u16_at returns', 'does not fit'),
     ('a proof that takes a fact of another kind', APPLIED, 'little_endian/u16_at returns', 'does not fit'),
@@ -145,6 +147,8 @@ TEXTS = [
     ('an edit without a fact', '# wrong\nfile: src/lib.rt\nold: a\nnew: b\n', 'fact'),
     ('an edit that says nothing but its fact', '# fact: f returns\nfile: src/lib.rt\nold: a\nnew: b\n', 'no comment'),
     ('a goal that is renamed', '# wrong\n# fact: f returns\nfile: proofs/f/Answers.antt\nold: if-k-eq1 c = g c.if-k-eq1.true\nnew: if-k-eq2 c = g c.if-k-eq2.true\n', ''),
+    ('a step that is renamed', '# wrong\n# fact: f returns\nfile: proofs/f/Answers.antt\nold: returns c = rw c.in-2.is c.low.ensures\nnew: returns c = rw c.in-2.is c.high.ensures\n', ''),
+    ('a fact that is taken for another', '# wrong\n# fact: f returns\nfile: proofs/f/Answers.antt\nold: returns c = rw c.low.ensures\nnew: returns c = rw c.low.requires\n', 'changes a proof'),
     ('a goal that is renamed twice', '# wrong\n# fact: f returns\nfile: proofs/f/Answers.antt\nold: if-k-eq1 c = g c.if-k-eq1.true\nnew: if-k-eq2 c = g c.if-k-eq3.true\n', 'changes a proof'),
     ('a proof that is changed', '# wrong\n# fact: f returns\nfile: proofs/f/Answers.antt\nold: returns c = refl\nnew: returns c = search\n', 'changes a proof'),
     ('a proof that is shortened', '# wrong\n# fact: f returns\nfile: proofs/f/Answers.antt\nold: returns c = sym refl\nnew: returns c = refl\n', 'changes a proof'),
