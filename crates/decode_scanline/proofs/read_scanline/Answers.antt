@@ -25,8 +25,8 @@ slice_bounds-paint_from-count c =
 
 pub slice_bounds-paint_from-start : goal.slice_bounds-paint_from-start
 slice_bounds-paint_from-start c =
-    let good : let s = c.scan_scanline-line in let a = c.args in GoodBody a.dtc (length a.row.now) a.rest.now c.body_start-from.result s.result.used.0 c.first_column-column.result (reading_of a.scn a.dtc (length a.row.now) a.number a.rest.now).row = let s = c.scan_scanline-line in let a = c.args in good_line a.scn a.dtc (length a.row.now) a.number a.rest.now s.ensures c.body_start-from.ensures c.first_column-column.ensures c.if-line-ne0.false in
-    good.starts
+    let good_2 : let s = c.scan_scanline-line in let a = c.args in GoodBody a.dtc (length a.row.now) a.rest.now c.body_start-from.result s.result.used.0 c.first_column-column.result (reading_of a.scn a.dtc (length a.row.now) a.number a.rest.now).row = let s = c.scan_scanline-line in let a = c.args in good_line a.scn a.dtc (length a.row.now) a.number a.rest.now s.ensures c.body_start-from.ensures c.first_column-column.ensures c.if-line-ne0.false in
+    good_2.starts
 
 pub slice_bounds-paint_from-end : goal.slice_bounds-paint_from-end
 slice_bounds-paint_from-end c =
@@ -35,12 +35,12 @@ slice_bounds-paint_from-end c =
 
 pub paint_from-requires : goal.paint_from-requires
 paint_from-requires c =
-    let good : let s = c.scan_scanline-line in let a = c.args in GoodBody a.dtc (length a.row.now) a.rest.now c.body_start-from.result s.result.used.0 c.first_column-column.result (reading_of a.scn a.dtc (length a.row.now) a.number a.rest.now).row = let s = c.scan_scanline-line in let a = c.args in good_line a.scn a.dtc (length a.row.now) a.number a.rest.now s.ensures c.body_start-from.ensures c.first_column-column.ensures c.if-line-ne0.false in
-    good.fits
+    let good_3 : let s = c.scan_scanline-line in let a = c.args in GoodBody a.dtc (length a.row.now) a.rest.now c.body_start-from.result s.result.used.0 c.first_column-column.result (reading_of a.scn a.dtc (length a.row.now) a.number a.rest.now).row = let s = c.scan_scanline-line in let a = c.args in good_line a.scn a.dtc (length a.row.now) a.number a.rest.now s.ensures c.body_start-from.ensures c.first_column-column.ensures c.if-line-ne0.false in
+    good_3.fits
 
 pub returns : goal.returns
 returns c =
-    let good : let s = c.scan_scanline-line in let a = c.args in GoodBody a.dtc (length a.row.now) a.rest.now c.body_start-from.result s.result.used.0 c.first_column-column.result (reading_of a.scn a.dtc (length a.row.now) a.number a.rest.now).row = let s = c.scan_scanline-line in let a = c.args in good_line a.scn a.dtc (length a.row.now) a.number a.rest.now s.ensures c.body_start-from.ensures c.first_column-column.ensures c.if-line-ne0.false in
+    let good_4 : let s = c.scan_scanline-line in let a = c.args in GoodBody a.dtc (length a.row.now) a.rest.now c.body_start-from.result s.result.used.0 c.first_column-column.result (reading_of a.scn a.dtc (length a.row.now) a.number a.rest.now).row = let s = c.scan_scanline-line in let a = c.args in good_line a.scn a.dtc (length a.row.now) a.number a.rest.now s.ensures c.body_start-from.ensures c.first_column-column.ensures c.if-line-ne0.false in
     let s = c.scan_scanline-line in
     let a = c.args in
     record {
@@ -49,5 +49,5 @@ returns c =
       used = s.ensures.used;
       row_is =
           c.paint_from.ensures
-          ∙ painted_line good a.row.now refl;
+          ∙ painted_line good_4 a.row.now refl;
     }

@@ -32,8 +32,8 @@ slice_bounds-paint_bytes_from-count c =
 
 pub slice_bounds-paint_bytes_from-start : goal.slice_bounds-paint_bytes_from-start
 slice_bounds-paint_bytes_from-start c =
-    let good : let s = c.scan_scanline-line in let p = c.bytes_to_words-p.result.0 in let a = c.args in GoodBody a.dtc p a.rest.now c.body_start-from.result s.result.used.0 c.first_column-column.result (reading_of a.scn a.dtc p a.number a.rest.now).row = let s = c.scan_scanline-line in let p = c.bytes_to_words-p.result.0 in let a = c.args in good_line a.scn a.dtc p a.number a.rest.now s.ensures c.body_start-from.ensures c.first_column-column.ensures c.if-line-ne0.false in
-    good.starts
+    let good_2 : let s = c.scan_scanline-line in let p = c.bytes_to_words-p.result.0 in let a = c.args in GoodBody a.dtc p a.rest.now c.body_start-from.result s.result.used.0 c.first_column-column.result (reading_of a.scn a.dtc p a.number a.rest.now).row = let s = c.scan_scanline-line in let p = c.bytes_to_words-p.result.0 in let a = c.args in good_line a.scn a.dtc p a.number a.rest.now s.ensures c.body_start-from.ensures c.first_column-column.ensures c.if-line-ne0.false in
+    good_2.starts
 
 pub slice_bounds-paint_bytes_from-end : goal.slice_bounds-paint_bytes_from-end
 slice_bounds-paint_bytes_from-end c =
@@ -43,15 +43,15 @@ slice_bounds-paint_bytes_from-end c =
 
 pub paint_bytes_from-requires : goal.paint_bytes_from-requires
 paint_bytes_from-requires c =
-    let good : let s = c.scan_scanline-line in let p = c.bytes_to_words-p.result.0 in let a = c.args in GoodBody a.dtc p a.rest.now c.body_start-from.result s.result.used.0 c.first_column-column.result (reading_of a.scn a.dtc p a.number a.rest.now).row = let s = c.scan_scanline-line in let p = c.bytes_to_words-p.result.0 in let a = c.args in good_line a.scn a.dtc p a.number a.rest.now s.ensures c.body_start-from.ensures c.first_column-column.ensures c.if-line-ne0.false in
+    let good_3 : let s = c.scan_scanline-line in let p = c.bytes_to_words-p.result.0 in let a = c.args in GoodBody a.dtc p a.rest.now c.body_start-from.result s.result.used.0 c.first_column-column.result (reading_of a.scn a.dtc p a.number a.rest.now).row = let s = c.scan_scanline-line in let p = c.bytes_to_words-p.result.0 in let a = c.args in good_line a.scn a.dtc p a.number a.rest.now s.ensures c.body_start-from.ensures c.first_column-column.ensures c.if-line-ne0.false in
     let count-is : c.bytes_to_words-p.result.0 ≡ (word_count c.args.row.now).0 = c.bytes_to_words-p.ensures in
     let room : word_bytes c.bytes_to_words-p.result.0 ≤ length c.args.row.now = omega (arith, count-is) in
-    record { column_le_p = good.fits; p_in_bounds = room }
+    record { column_le_p = good_3.fits; p_in_bounds = room }
 
 pub returns : goal.returns
 returns c =
     let count-is : c.bytes_to_words-p.result.0 ≡ (word_count c.args.row.now).0 = c.bytes_to_words-p.ensures in
     let scanned : let a = c.args in let p = (word_count a.row.now).0 in IsScan (step_of a.scn a.dtc p a.rest.now) (reading_of a.scn a.dtc p a.number a.rest.now) c.scan_scanline-line.result = let a = c.args in subst (λ (p : ℕ). IsScan (step_of a.scn a.dtc p a.rest.now) (reading_of a.scn a.dtc p a.number a.rest.now) c.scan_scanline-line.result) count-is c.scan_scanline-line.ensures in
-    let good : let s = c.scan_scanline-line in let p = c.bytes_to_words-p.result.0 in let a = c.args in GoodBody a.dtc p a.rest.now c.body_start-from.result s.result.used.0 c.first_column-column.result (reading_of a.scn a.dtc p a.number a.rest.now).row = let s = c.scan_scanline-line in let p = c.bytes_to_words-p.result.0 in let a = c.args in good_line a.scn a.dtc p a.number a.rest.now s.ensures c.body_start-from.ensures c.first_column-column.ensures c.if-line-ne0.false in
+    let good_4 : let s = c.scan_scanline-line in let p = c.bytes_to_words-p.result.0 in let a = c.args in GoodBody a.dtc p a.rest.now c.body_start-from.result s.result.used.0 c.first_column-column.result (reading_of a.scn a.dtc p a.number a.rest.now).row = let s = c.scan_scanline-line in let p = c.bytes_to_words-p.result.0 in let a = c.args in good_line a.scn a.dtc p a.number a.rest.now s.ensures c.body_start-from.ensures c.first_column-column.ensures c.if-line-ne0.false in
     let room : word_bytes c.bytes_to_words-p.result.0 ≤ length c.args.row.now = omega (arith, count-is) in
-    let a = c.args in record { scan = scanned; row_after = c.paint_bytes_from.ensures ∙ painted_bytes good a.row.now room ∙ ap (λ (n : ℕ). over (words_to_bytes (reading_of a.scn a.dtc n a.number a.rest.now).row) a.row.now) count-is }
+    let a = c.args in record { scan = scanned; row_after = c.paint_bytes_from.ensures ∙ painted_bytes good_4 a.row.now room ∙ ap (λ (n : ℕ). over (words_to_bytes (reading_of a.scn a.dtc n a.number a.rest.now).row) a.row.now) count-is }
