@@ -37,8 +37,8 @@ slice_bounds-read_raster-end c =
 
 pub slice_bounds-read_raster-end-2 : goal.slice_bounds-read_raster-end-2
 slice_bounds-read_raster-end-2 c =
-    let fits : c.transcode-moved.result.size.0 ≤ length c.transcode-moved.new.out = let a = c.args in let x = c.transcode-moved.ensures in omega (arith, size_fits a.file.now (length a.out.now) c.transcode-moved.result x.result_value c.if-moved-ne0.false, ap length x.out_after ∙ length_after a.file.now a.out.now) in
-    sym (length-take-le c.transcode-moved.result.size.0 c.transcode-moved.new.out fits)
+    let fits_2 : c.transcode-moved.result.size.0 ≤ length c.transcode-moved.new.out = let a = c.args in let x = c.transcode-moved.ensures in omega (arith, size_fits a.file.now (length a.out.now) c.transcode-moved.result x.result_value c.if-moved-ne0.false, ap length x.out_after ∙ length_after a.file.now a.out.now) in
+    sym (length-take-le c.transcode-moved.result.size.0 c.transcode-moved.new.out fits_2)
 
 pub returns : goal.returns
 returns c =
