@@ -1,4 +1,4 @@
-use Rattle.std.proofs.Common.{ℕ, ◌-◌, ◌≤◌, List}
+use Rattle.std.proofs.Common.{◌<◌, ◌≡◌, ℕ, ◌-◌, ◌≤◌, List}
 use Rattle.layout.specs.Chain.{raster_of}
 use Rattle.decode_raster.specs.Laws.Answer.{as_bytes}
 use Rattle.decode_raster.proofs.Laws.Lines.{LinesAt}
@@ -18,6 +18,7 @@ decreases-loop-k l = l.end - l.k
 
 abbrev pub invariant-runs : goal.invariant-runs
 invariant-runs l =
+    (l.k < l.n → (l.l.dtc ≡ 2) × (l.n ≡ l.l.nol)) ×
     LinesAt (raster_of l.l l.bytes) (as_bytes l.l.ppl) l.initial.pixels l.initial.marks l.pixels l.marks (good_chain l.at l.k l.rollover) l.k
 
 abbrev pub decreases-runs : goal.decreases-runs
