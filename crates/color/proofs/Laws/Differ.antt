@@ -1,7 +1,7 @@
 -- The two colors are one but for ink on paper.
 use Rattle.std.specs.Prelude.{ℕ, ◌<◌, ◌⊎◌, ◌≡◌, refl, Bool, true, false, cond, ◌||◌, List, eqb, ltb}
-use Rattle.std.proofs.Common.{inl, inr, sym, ◌∙◌, ap, arith, ne_eqb, lt-ltb, eqb-true, le-ltb, ltb-true, ltb-false}
-use Rattle.std.proofs.lemmas.Bool.{eqb-false}
+use Rattle.std.proofs.Common.{inl, inr, sym, ◌∙◌, ap, arith, ne_eqb, lt-ltb, eqb-true, ltb-true, ltb-false}
+use Rattle.std.proofs.lemmas.Bool.{eqb-false, cond_above}
 use Rattle.units.proofs.Laws.Rules.{both_true}
 use Rattle.fields.specs.Fields.{fields_of}
 use Rattle.header.specs.Rejections.{rejection_to22}
@@ -39,7 +39,7 @@ module _ (f : List ℕ) (v : ℕ) where
     shown = by_ink f v p.accepted (is_inked_lem p.bilevel p.no_table)
 
     plotted : plotter_reading f v ≡ even_color (scaled v)
-    plotted = by_plotter f v p.accepted ∙ rw (p.no_table, le-ltb 255 v p.one_byte)
+    plotted = by_plotter f v p.accepted ∙ rw p.no_table (sym (cond_above _ v _ _ _ (omega (arith, p.one_byte)) refl))
 
     differ : color_reading f v ≡ plotter_reading f v → ⊥
     differ e = not_gray v (sym shown ∙ e ∙ plotted)
