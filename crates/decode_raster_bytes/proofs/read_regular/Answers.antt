@@ -75,12 +75,7 @@ runs-preserved c =
 pub overflow_add-k : goal.overflow_add-k
 overflow_add-k c =
     let typed = c.runs.invariant.0 c.runs-test.true in
-    let end : ℕ = c.lesser-end.result in
-    let before : ℕ = c.runs.k + 1 - c.number_line-numbered.result.number in
-    let ends_by : (end ≤ before + 65535) × (end ≤ c.args.l.nol) = let e = c.lesser-end.ensures in omega (arith, typed) in
-    let counted : (c.number_line-numbered.result.number ≤ 65535) × (c.number_line-numbered.result.number ≤ c.runs.k + 1) = let n = c.number_line-numbered in let k = c.runs.k in (omega (arith, n.ensures.number_value, (rolls_over n.result.rollover).one_word k), omega (arith, n.ensures.number_value, number_most n.result.rollover k)) in
-    let within : (c.loop-k.k < c.args.l.nol) × (c.loop-k.k + 1 - before ≤ 65535) = omega (arith, typed, ends_by, c.loop-k-test.true, counted) in
-    omega (arith, within, c.requires.nol_most)
+    omega (arith, typed, c.lesser-end.ensures, c.loop-k-test.true, c.requires.nol_most)
 
 pub overflow_sub-k : goal.overflow_sub-k
 overflow_sub-k c =
