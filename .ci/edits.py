@@ -33,9 +33,10 @@ UNFIT = re.compile(r"is not in scope|has no `|has no field|`: (record|module) `|
 CLAUSE = re.compile(r'\b(?:requires|ensures|ghost|decreases)\b\*?\s*\w*\s*\{')
 TOKEN = re.compile(r"\d\w*(?:\.\d\w*)?|'\w+|[^\W\d]\w*|::|->|=>|\.\.=?|<<=?|>>=?|[-+*/%&|^=!<>]=|&&|\|\||\S")
 KEYWORDS = set('as break const continue crate else enum extern fn for if in let loop match mod move mut pub return static struct unsafe use while'.split())
-COMPARISONS = {'<', '<=', '>', '>=', '==', '!='}
-# The same in the names of goals, of operands and numbers.
-NAMED = {'lt', 'le', 'gt', 'ge', 'eq', 'ne', 'not'}
+COMPARISONS = {'<': 'lt', '<=': 'le', '>': 'gt', '>=': 'ge', '==': 'eq', '!=': 'ne'}
+FLIPPED = {'lt': 'gt', 'le': 'ge', 'gt': 'lt', 'ge': 'le', 'eq': 'eq', 'ne': 'ne'}
+# What an answer takes of a case beside the steps of the code.
+PARTS = {'args', 'requires', 'ranges', 'well_formed', 'before'}
 
 
 def faults_of_text(text):
@@ -263,38 +264,86 @@ def edited(crate, text, part):
     return files
 
 
-def goal_words(name):
-    return set(re.findall(r'[^\W\d]+|\d+', name))
+def number(side):
+    """A number as a goal's name has it; one in hexadecimal digits beyond 9 leaves no trace there."""
+    plain = re.fullmatch(r'(0x[\d_]+|\d[\d_]*?)(?:[ui](?:\d+|size))?', side)
+    return str(int(plain[1], 0)) if plain else ''
+
+
+def condition(text):
+    """The name that goals have for a condition: of the first two that it names outside calls, and a number or a constant."""
+    text, is_not = re.sub(r'\bas \w+', '', text), text.startswith('!')
+    while (shorter := re.sub(r'(\w?)\(([^()]*)\)', lambda found: found[1] or found[2], text)) != text:
+        text = shorter
+    left, sign, right = [*map(str.strip, re.split(r'\s(<=|>=|==|!=|<|>)\s', text)), '', ''][:3]
+    sign = COMPARISONS.get(sign, '')
+    is_fixed = lambda side: re.fullmatch(r'\d\w*|[A-Z][A-Z_\d]+', side)
+    if is_fixed(left) and sign:
+        left, sign, right = right, FLIPPED[sign], left
+    end = '' if not is_fixed(right) else f'-{sign}-{right}' if right[0].isalpha() else number(right) and f'-{sign}{number(right)}'
+    named = re.findall(r'(?<![\w.])[^\W\d]\w*', left if is_fixed(right) else f'{left} {right}')
+    return 'not-' * is_not + '-'.join(named[:2]) + end
+
+
+def conditions(code):
+    """The names by which the conditions and the arms of a function's code stand in those of its goals, as far as they can be told."""
+    found = [condition(part) for text in re.findall(r'\bif\s+([^{]*?)\s*\{', code) for part in re.split(r'\s*(?:&&|\|\|)\s*', text)]
+    # a name that stands again is counted
+    found = [name if name not in found[:at] else f'{name}-{found[:at + 1].count(name)}' for at, name in enumerate(found)]
+    return {*found, *(f'in-{arm}' for arm in re.findall(r'\b(\d+) =>', code))}
+
+
+def gone(crate, text):
+    """The conditions and arms whose names an edit changes, by function."""
+    found = {}
+    for path, sources in edited(crate, text, 'src/').items():
+        before, now = ({name: conditions(blanked(source)[start:end]) for name, _, start, end in spans(blanked(source))} for source in sources)
+        found |= {module_of(path) + name: lost for name in before if (lost := before[name] - now.get(name, set()))}
+    return found
 
 
 def renamed(crate, place, name, text):
-    """The goal that a function's answers have where the edit's condition gives it another name, that nothing answers."""
+    """An answer of a function that lacks its goal under an edit, because the goal has another name there; `name` is a goal that is
+    there."""
     path = f'proofs/{place}/Answers.antt'
     if not (ROOT / 'crates' / crate / path).is_file():
         return None
     answers = edited(crate, text, path).get(path, [(ROOT / 'crates' / crate / path).read_text()])[-1]
-    before, now = (set().union(*[goal_words(pair[i]) for pair in pairs(text) if pair[0].startswith('src/')], NAMED) for i in (1, 2))
-    parted = lambda goal: re.fullmatch(r'(.*-(?:then|else|arm)-)(.*)', goal)
-    found = parted(name.removesuffix('..'))
+    lost = gone(crate, text).get(place, set())
     for answer in re.findall(r'^pub ([^\s:]+) :', answers, re.M):
-        other = parted(answer)
-        if found and other and answer != name and other[1] == found[1] and goal_words(other[2]) <= before and goal_words(found[2]) <= now:
+        parted = re.fullmatch(r'(?:.*-)?(?:(?:then|else)-(.*)|(in-\d+))', re.sub(r'-clause-.*', '', answer))
+        if parted and answer != name and (parted[1] or parted[2]) in lost:
             return answer
     return None
 
 
+def goals_renamed(old, new):
+    """The goals that a pair gives other names, where it declares them or where it brings their names from Goals."""
+    for line in r'pub (\S+) : goal\.\1', r'use \S+\.Goals\.\{(.*)\}':
+        both = [re.fullmatch(line, text) for text in (old, new)]
+        if all(both):
+            yield from zip(*(re.split(r',\s*', found[1]) for found in both))
+
+
+def is_step(words, at):
+    """Whether a word is a step of the code, whose facts are taken: of an answer's case, or a condition of one of its branches."""
+    name = words[at]
+    return words[at - 1:at] == ['.'] and (words[at - 2] == 'c' and words[at + 1:at + 2] == ['.'] and name[0].isalpha() and name not in PARTS or name.startswith('if-'))
+
+
 def faults_of_proofs(text):
-    """What an edit changes in proofs beside the names of goals and cases, each to one other name."""
+    """What an edit changes in proofs beside the names of goals and steps, each to one other name."""
+    changes = [(path, old, new) for path, old, new in pairs(text) if path.startswith('proofs/')]
+    goals = {pair for path, old, new in changes if PROOFS.fullmatch(path) for pair in goals_renamed(old, new)}
     names = {}
-    for path, old, new in pairs(text):
-        if path.startswith('proofs/') and PROOFS.fullmatch(path):
-            was, now = (re.findall(r"[\w'-]+|\S", line) for line in (old, new))
-            # a goal, a case, or a step of the code, whose facts are taken
-            named = lambda words, i: words[i][0].isalpha() and ('-' in words[i] or words[i - 2:i] == ['c', '.'] and words[i + 1:i + 2] == ['.'])
-            if len(was) != len(now) or any(was[i] != now[i] and not (named(was, i) and named(now, i) and names.setdefault(was[i], now[i]) == now[i]) for i in range(len(was))):
-                yield f'it changes a proof and not only its names: {old.strip()[:80]}'
-        elif path.startswith('proofs/'):
+    for path, old, new in changes:
+        if not PROOFS.fullmatch(path):
             yield f'it changes {path}: a law is what refuses an edit'
+            continue
+        was, now = (re.findall(r"[\w'-]+|\S", line) for line in (old, new))
+        fits = lambda i: ((was[i], now[i]) in goals or is_step(was, i) and is_step(now, i)) and names.setdefault(was[i], now[i]) == now[i]
+        if len(was) != len(now) or not all(was[i] == now[i] or fits(i) for i in range(len(was))):
+            yield f'it changes a proof and not only its names: {old.strip()[:80]}'
 
 
 def other_shapes(crate, text):
@@ -316,10 +365,9 @@ def check(path, said):
         yield 'it was not tried'
     for one in sorted(set(told)):
         yield from faults_of_said(one, crate, fact_of(text))
-        first = first_refusal(one, crate)
-        answer = first and first[2].startswith('note: ') and renamed(crate, *first[:2], text)
-        if answer:
-            yield f'`{first[1]}` is what proofs/{first[0]}/Answers.antt answers as `{answer}`: rename it there too'
+    for place in sorted(gone(crate, text)):
+        if answer := renamed(crate, place, '', text):
+            yield f'the goal that proofs/{place}/Answers.antt answers as `{answer}` has another name under it: rename it there too'
     changed = list(other_shapes(crate, text))
     if changed:
         yield f'it changes the steps of {", ".join(changed)}, and not only what they are done with'

@@ -141,17 +141,27 @@ LOGS = [
     ('a clause that is refused', CLAUSED, 'src/lib.rt returns', 'itself is refused'),
 ]
 
+ANSWERS = '# wrong\n# fact: f returns\nfile: proofs/f/Answers.antt\n'
+DECLARES = ANSWERS + 'old: pub returns-then-k-eq1 : goal.returns-then-k-eq1\nnew: pub returns-then-k-eq2 : goal.returns-then-k-eq2\n'
+
 TEXTS = [
     ('an edit as it should be', '# wrong\n# fact: f returns\nfile: src/lib.rt\nold: a\nnew: b\n', ''),
     ('an edit of two lines', '# wrong\n# fact: f returns\nfile: src/lib.rt\nold: a\n  b\nnew: c\n', 'nothing reads'),
     ('an edit without a fact', '# wrong\nfile: src/lib.rt\nold: a\nnew: b\n', 'fact'),
     ('an edit that says nothing but its fact', '# fact: f returns\nfile: src/lib.rt\nold: a\nnew: b\n', 'no comment'),
-    ('a goal that is renamed', '# wrong\n# fact: f returns\nfile: proofs/f/Answers.antt\nold: if-k-eq1 c = g c.if-k-eq1.true\nnew: if-k-eq2 c = g c.if-k-eq2.true\n', ''),
-    ('a step that is renamed', '# wrong\n# fact: f returns\nfile: proofs/f/Answers.antt\nold: returns c = rw c.in-2.is c.low.ensures\nnew: returns c = rw c.in-2.is c.high.ensures\n', ''),
-    ('a fact that is taken for another', '# wrong\n# fact: f returns\nfile: proofs/f/Answers.antt\nold: returns c = rw c.low.ensures\nnew: returns c = rw c.low.requires\n', 'changes a proof'),
-    ('a goal that is renamed twice', '# wrong\n# fact: f returns\nfile: proofs/f/Answers.antt\nold: if-k-eq1 c = g c.if-k-eq1.true\nnew: if-k-eq2 c = g c.if-k-eq3.true\n', 'changes a proof'),
-    ('a proof that is changed', '# wrong\n# fact: f returns\nfile: proofs/f/Answers.antt\nold: returns c = refl\nnew: returns c = search\n', 'changes a proof'),
-    ('a proof that is shortened', '# wrong\n# fact: f returns\nfile: proofs/f/Answers.antt\nold: returns c = sym refl\nnew: returns c = refl\n', 'changes a proof'),
+    ('a goal that is renamed', DECLARES + 'old: returns-then-k-eq1 c = g c.if-k-eq1.true\nnew: returns-then-k-eq2 c = g c.if-k-eq2.true\n', ''),
+    ('a goal that is taken for another', ANSWERS + 'old: returns-then-k-eq1 c = g\nnew: returns-then-k-eq2 c = g\n', 'changes a proof'),
+    ('a name of Goals that is renamed', ANSWERS + 'old: use Rattle.a.proofs.f.Goals.{then-k-eq1, else-k-eq1}\nnew: use Rattle.a.proofs.f.Goals.{then-k-eq2, else-k-eq2}\n'
+     'old: [ then-k-eq1 w ↦ w.if-k-eq1.true\nnew: [ then-k-eq2 w ↦ w.if-k-eq2.true\n', ''),
+    ('a lemma that is brought for another', ANSWERS + 'old: use Rattle.a.proofs.Laws.Words.{length-words}\nnew: use Rattle.a.proofs.Laws.Words.{length-bytes}\n', 'changes a proof'),
+    ('a lemma that is taken for another', DECLARES + 'old: returns c = omega (arith, length-words r)\nnew: returns c = omega (arith, length-bytes r)\n', 'changes a proof'),
+    ('an argument that is taken for another', ANSWERS + 'old: returns c = g c.args.k\nnew: returns c = g c.args.n\n', 'changes a proof'),
+    ('an argument that is taken for what is required', ANSWERS + 'old: returns c = g c.args.k\nnew: returns c = g c.requires.k\n', 'changes a proof'),
+    ('a step that is renamed', ANSWERS + 'old: returns c = rw c.in-2.is c.low.ensures\nnew: returns c = rw c.in-2.is c.high.ensures\n', ''),
+    ('a fact that is taken for another', ANSWERS + 'old: returns c = rw c.low.ensures\nnew: returns c = rw c.low.requires\n', 'changes a proof'),
+    ('a goal that is renamed twice', ANSWERS + 'old: returns c = g c.if-k-eq1.true c.if-k-eq1.true\nnew: returns c = g c.if-k-eq2.true c.if-k-eq3.true\n', 'changes a proof'),
+    ('a proof that is changed', ANSWERS + 'old: returns c = refl\nnew: returns c = search\n', 'changes a proof'),
+    ('a proof that is shortened', ANSWERS + 'old: returns c = sym refl\nnew: returns c = refl\n', 'changes a proof'),
     ('a law that is changed', '# wrong\n# fact: f returns\nfile: proofs/Laws/Law.antt\nold: f-1 = g\nnew: f-2 = g\n', 'a law is what'),
 ]
 
@@ -177,9 +187,26 @@ SHAPES = [
     ('steps in another order', STEPS.replace('g(p, s[0])', 'g(h(p), k(s))').replace('h(n)', 'n'), False),
 ]
 
-# An edit of a condition whose goal is answered by hand: the answer that lacks its name, or none where the edit renames it too.
-CONDITION = '# wrong\n# fact: is_data_type returns-then-dtc-eq0\nfile: src/lib.rt\nold: if dtc == 1 {\nnew: if dtc == 0 {\n'
+def changed(path, old, new):
+    return f'# wrong\n# fact: f returns\nfile: {path}\nold: {old}\nnew: {new}\n'
+
+
+# An edit of a condition or an arm, by which goals of a function have their names: what it is, the crate, the function, a goal that it
+# has under the edit, the edit, and the answer that then lacks its goal, or none.
+CONDITION = changed('src/lib.rt', 'if dtc == 1 {', 'if dtc == 0 {')
 RENAMED = CONDITION + 'file: proofs/is_data_type/Answers.antt\nold: pub returns-then-dtc-eq1 : goal.returns-then-dtc-eq1\nnew: pub returns-then-dtc-eq0 : goal.returns-then-dtc-eq0\n'
+RENAMES = [
+    ('a condition', 'limits', 'is_data_type', 'returns-then-dtc-eq0', CONDITION, 'returns-then-dtc-eq1'),
+    ('a condition that is renamed in the answers', 'limits', 'is_data_type', 'returns-then-dtc-eq0', RENAMED, None),
+    ('a condition, and another goal that refuses', 'limits', 'is_data_type', 'returns', CONDITION, 'returns-then-dtc-eq1'),
+    ('a goal of more clauses', 'decode_raster', 'read_raster', 'returns-then-number-ne1-clause-result_value', changed('src/lib.rt', 'if number != 0 {', 'if number != 1 {'), 'returns-then-number-ne0'),
+    ('a number in hexadecimal', 'scan_scanline', 'headed/lost_status', 'returns', changed('src/headed.rt', 'if rest[1] != 0x59 {', 'if rest[1] != 0xd9 {'), 'returns-then-rest-ne89'),
+    ('the same number in decimal', 'scan_scanline', 'headed/lost_status', 'returns', changed('src/headed.rt', 'if rest[1] != 0x59 {', 'if rest[1] != 89 {'), None),
+    ('the second condition of a name', 'header', 'rejection/table_rejection', 'returns', changed('src/rejection.rt', 'if h.cte == 0 {', 'if h.cte == 1 {'), 'returns-then-h-eq0-2'),
+    ('a condition of the same name', 'header', 'rejection/table_rejection', 'returns', changed('src/rejection.rt', 'if h.cte == 0 {', 'if h.ctv == 0 {'), None),
+    ('an arm', 'decode_body', 'by_type/body_status', 'returns-in_default', changed('src/by_type.rt', '3 => words_status(body, p)', '4 => words_status(body, p)'), 'returns-in-3'),
+    ('a constant', 'capi', 'ingr_color', 'returns', changed('src/lib.rt', 'if answer.len() < COLOR_SIZE {', 'if answer.len() < 16 {'), 'returns-then-answer-lt-COLOR_SIZE'),
+]
 
 # The last line but one of `rt ci`, and whether all edits are good.
 ENDS = [
@@ -206,6 +233,15 @@ def spoiled(check, wanted, spoil):
         words = ['claims.py'] if check == 'claims' else ['sources.py', check]
         run = subprocess.run([sys.executable, tree / '.ci' / words[0], *words[1:]], capture_output=True, text=True)
         return run.returncode == 1 and wanted in run.stdout, run.stdout + run.stderr
+
+
+def faults_of_edit(crate, text, log):
+    """What is wrong with an edit of a crate of which this was said."""
+    with tempfile.TemporaryDirectory() as room:
+        path = pathlib.Path(room) / crate / 'must-fail' / 'spoiled.edit'
+        path.parent.mkdir(parents=True)
+        path.write_text(text)
+        return ' '.join(edits.check(path, {(crate, 'spoiled'): [log]}))
 
 
 def no_bad_edit(line):
@@ -243,11 +279,15 @@ def main():
         passed += right
         if not right:
             failed.append(f'{name}: the shape is {"not " if same else ""}the same')
-    for text, wanted in (CONDITION, 'returns-then-dtc-eq1'), (RENAMED, None):
-        said = edits.renamed('limits', 'is_data_type', 'returns-then-dtc-eq0', text)
+    for name, crate, place, goal, text, wanted in RENAMES:
+        said = edits.renamed(crate, place, goal, text)
         passed += said == wanted
         if said != wanted:
-            failed.append(f'the answer that an edit leaves without its name: {said}, and not {wanted}')
+            failed.append(f'the answer that {name} leaves without its goal: {said}, and not {wanted}')
+    said = faults_of_edit('limits', CONDITION, REFUSED)
+    passed += 'another name' in said
+    if 'another name' not in said:
+        failed.append(f'an answer without its goal, of an edit that another fact refuses: {said}')
     for name, line, good in ENDS:
         right = (no_bad_edit(line) == 0) == good
         passed += right
