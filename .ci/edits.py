@@ -282,7 +282,7 @@ def condition(text):
         left, sign, right = right, FLIPPED[sign], left
     end = '' if not is_fixed(right) else f'-{sign}-{right}' if right[0].isalpha() else number(right) and f'-{sign}{number(right)}'
     named = re.findall(r'(?<![\w.])[^\W\d]\w*', left if is_fixed(right) else f'{left} {right}')
-    return 'not-' * is_not + '-'.join(named[:2]) + end
+    return 'not-' * is_not + '-'.join(list(dict.fromkeys(named))[:2]) + end
 
 
 def conditions(code):
@@ -319,7 +319,7 @@ def renamed(crate, place, name, text):
 
 def goals_renamed(old, new):
     """The goals that a pair gives other names, where it declares them or where it brings their names from Goals."""
-    for line in r'pub (\S+) : goal\.\1', r'use \S+\.Goals\.\{(.*)\}':
+    for line in r'pub (\S+) : goal\.\1', r'.*\bGoals\.\{(.*?)\}?':
         both = [re.fullmatch(line, text) for text in (old, new)]
         if all(both):
             yield from zip(*(re.split(r',\s*', found[1]) for found in both))

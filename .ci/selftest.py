@@ -153,6 +153,7 @@ TEXTS = [
     ('a goal that is taken for another', ANSWERS + 'old: returns-then-k-eq1 c = g\nnew: returns-then-k-eq2 c = g\n', 'changes a proof'),
     ('a name of Goals that is renamed', ANSWERS + 'old: use Rattle.a.proofs.f.Goals.{then-k-eq1, else-k-eq1}\nnew: use Rattle.a.proofs.f.Goals.{then-k-eq2, else-k-eq2}\n'
      'old: [ then-k-eq1 w ↦ w.if-k-eq1.true\nnew: [ then-k-eq2 w ↦ w.if-k-eq2.true\n', ''),
+    ('a part of a line of names of Goals', ANSWERS + 'old: Goals.{then-k-eq1, else-k-eq1,\nnew: Goals.{then-k-eq2, else-k-eq2,\n', ''),
     ('a lemma that is brought for another', ANSWERS + 'old: use Rattle.a.proofs.Laws.Words.{length-words}\nnew: use Rattle.a.proofs.Laws.Words.{length-bytes}\n', 'changes a proof'),
     ('a lemma that is taken for another', DECLARES + 'old: returns c = omega (arith, length-words r)\nnew: returns c = omega (arith, length-bytes r)\n', 'changes a proof'),
     ('an argument that is taken for another', ANSWERS + 'old: returns c = g c.args.k\nnew: returns c = g c.args.n\n', 'changes a proof'),
