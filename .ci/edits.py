@@ -5,7 +5,7 @@
 
 An edit is a wrong program or a wrong definition. It shows something only where the prover refuses it because a fact no longer
 holds. One that merely made a proof unfit for the code, because a step was added, dropped or renamed, would be refused however
-right the program was. A goal has its name by the conditions that lead to it: an edit of a condition whose goal is answered by
+right the program was. A goal has its name by the conditions and arms that lead to it: an edit of one whose goal is answered by
 hand renames it in the answers too, by pairs of lines for `proofs/FUNCTION/Answers.antt` that do nothing else.
 
 An edit's file has a comment, a comment `# fact: PLACE NAME`, and then `file:`, `old:` and `new:` lines. PLACE is a function, as
