@@ -186,6 +186,8 @@ def shape(code):
     """Code without its operands: what is read, constants, names and the kind of a comparison. What is called, what is computed
     and cast, what is written, and where it branches and loops stay, in their order."""
     tokens = re.sub(r'(?<!&)\bmut\b', '', code)
+    # an answer of a constant, or of what is read, is a value and no step; so is one of a type's constants
+    tokens = re.sub(r'\b(?:Ok|Err|Some)\((?:\(\)|[\w.:]+|[A-Z]\w* \{(?: \w+: (?:\d+|true|false),?)+ \})\)', 'ANSWER', tokens)
     tokens, out = TOKEN.findall(tokens), []
     for at, token in enumerate(tokens):
         after = tokens[at + 1] if at + 1 < len(tokens) else ''

@@ -1,5 +1,6 @@
 #!/usr/bin/env python3
 """Shows that each check of the sources and of the edits can fail: every case spoils a copy of the tree and wants a complaint."""
+import contextlib
 import pathlib
 import shutil
 import subprocess
@@ -56,6 +57,7 @@ CASES = [
     ('an ensures of memory that says nothing', 'promises', 'no ensures', lambda t: add_function(t, PLAIN + '    ensures* { ⊤ₛ }\n' + BODY)),
     ('an ensures that anything meets', 'promises', 'no ensures', lambda t: add_function(t, PLAIN + '    ensures value { result ≡ result }\n' + BODY)),
     ('a buffer without a word', 'promises', 'what row holds', lambda t: add_function(t, PLAIN + KEEPS + BODY)),
+    ('a method that does not say what it leaves', 'promises', 'what self holds', lambda t: add_function(t, PLAIN.replace('row: &mut [u16]', '&mut self') + KEEPS + BODY)),
     ('a buffer of which only the old is said', 'promises', 'what row holds', lambda t: add_function(t, PLAIN + KEEPS.replace('≡ v', '≡ length row.old') + BODY)),
     ('an answer without a word', 'promises', 'speaks of the answer', lambda t: add_function(t, PLAIN + LEAVES + BODY)),
     ('a requires', 'promises', 'a requires', lambda t: add_function(t, PLAIN + '    requires { v ≡ v }\n' + KEEPS + LEAVES + BODY)),
@@ -167,7 +169,7 @@ TEXTS = [
 ]
 
 # A function, and another: whether the shape is the same.
-STEPS = 'fn f(p: usize, s: &[u8]) -> Bytes { let n = g(p, s[0]); if p < 5 { return Bytes(h(n)); } match p { 2 | 3 => f(n, s), _ => Bytes(n as usize) } }'
+STEPS = 'fn f(p: usize, s: &[u8]) -> Bytes { let n = g(p, s[0]); if p < 5 { return Bytes(h(n)); } match p { 2 | 3 => f(n, s), 9 => Err(E::Low), _ => Bytes(n as usize) } }'
 SHAPES = [
     ('another operand', STEPS.replace('h(n)', 'h(p)'), True),
     ('a part of what is read', STEPS.replace('h(n)', 'h(n.0)'), True),
@@ -175,6 +177,10 @@ SHAPES = [
     ('another arm', STEPS.replace('2 | 3', '4'), True),
     ('another comparison', STEPS.replace('p < 5', '5 <= p'), True),
     ('another kind of comparison', STEPS.replace('p < 5', 'p != 5'), True),
+    ('another answer of constants', STEPS.replace('Err(E::Low)', 'Ok(())'), True),
+    ('an answer of what is read', STEPS.replace('Err(E::Low)', 'Err(n)'), True),
+    ("an answer of a type's constants", STEPS.replace('Err(E::Low)', 'Ok(T { at: 0, good: true })'), True),
+    ('an answer of what is made', STEPS.replace('Err(E::Low)', 'Err(g(n))'), False),
     ('a comment', STEPS.replace('if p', '/* n < 5 { */ if p') + '// end', True),
     ('operands exchanged with what is made', STEPS.replace('g(p, s[0])', 'g(s[0], p)'), True),
     ('another clause', STEPS.replace(' {', ' ensures { result.0 ≡ f p } {', 1), True),
@@ -192,21 +198,36 @@ def changed(path, old, new):
     return f'# wrong\n# fact: f returns\nfile: {path}\nold: {old}\nnew: {new}\n'
 
 
-# An edit of a condition or an arm, by which goals of a function have their names: what it is, the crate, the function, a goal that it
+# A crate whose functions have answers: its files.
+MADE = {
+    'src/lib.rt': '''
+pub fn kind(dtc: u32) -> bool { if dtc == 1 { return true; } if dtc == 2 { return true; } false }
+pub fn read(file: &[u8]) -> u16 { let number = first(file); if number != 0 { return number; } 0 }
+pub fn lost(rest: &[u8]) -> u8 { if rest[1] != 0x59 { return 2; } 0 }
+pub fn table(h: Fields) -> u16 { if h.ctv == 0 { return 0; } if h.cte == 0 { return 21; } 0 }
+pub fn status(dtc: u16, body: &[u8]) -> u8 { match dtc { 2 => bytes(body), 3 => words(body), _ => 16 } }
+pub fn color(answer: &mut [u8]) -> u32 { if answer.len() < COLOR_SIZE { return 29; } 0 }
+''',
+    **{f'proofs/{name}/Answers.antt': ''.join(f'pub {goal} : goal.{goal}\n{goal} c = lemma c.args\n' for goal in goals.split())
+       for name, goals in [('kind', 'returns-then-dtc-eq1 returns-then-dtc-eq2 returns'), ('read', 'returns-then-number-ne0 returns'), ('lost', 'returns-then-rest-ne89'),
+                           ('table', 'returns-then-h-eq0 returns-then-h-eq0-2 returns'), ('status', 'returns-in-2 returns-in-3'), ('color', 'returns-then-answer-lt-COLOR_SIZE')]},
+}
+
+# An edit of a condition or an arm, by which goals of a function have their names: what it is, the function, a goal that it
 # has under the edit, the edit, and the answer that then lacks its goal, or none.
 CONDITION = changed('src/lib.rt', 'if dtc == 1 {', 'if dtc == 0 {')
-RENAMED = CONDITION + 'file: proofs/is_data_type/Answers.antt\nold: pub returns-then-dtc-eq1 : goal.returns-then-dtc-eq1\nnew: pub returns-then-dtc-eq0 : goal.returns-then-dtc-eq0\n'
+RENAMED = CONDITION + 'file: proofs/kind/Answers.antt\nold: pub returns-then-dtc-eq1 : goal.returns-then-dtc-eq1\nnew: pub returns-then-dtc-eq0 : goal.returns-then-dtc-eq0\n'
 RENAMES = [
-    ('a condition', 'limits', 'is_data_type', 'returns-then-dtc-eq0', CONDITION, 'returns-then-dtc-eq1'),
-    ('a condition that is renamed in the answers', 'limits', 'is_data_type', 'returns-then-dtc-eq0', RENAMED, None),
-    ('a condition, and another goal that refuses', 'limits', 'is_data_type', 'returns', CONDITION, 'returns-then-dtc-eq1'),
-    ('a goal of more clauses', 'decode_raster', 'read_raster', 'returns-then-number-ne1-clause-result_value', changed('src/lib.rt', 'if number != 0 {', 'if number != 1 {'), 'returns-then-number-ne0'),
-    ('a number in hexadecimal', 'scan_scanline', 'headed/lost_status', 'returns', changed('src/headed.rt', 'if rest[1] != 0x59 {', 'if rest[1] != 0xd9 {'), 'returns-then-rest-ne89'),
-    ('the same number in decimal', 'scan_scanline', 'headed/lost_status', 'returns', changed('src/headed.rt', 'if rest[1] != 0x59 {', 'if rest[1] != 89 {'), None),
-    ('the second condition of a name', 'header', 'rejection/table_rejection', 'returns', changed('src/rejection.rt', 'if h.cte == 0 {', 'if h.cte == 1 {'), 'returns-then-h-eq0-2'),
-    ('a condition of the same name', 'header', 'rejection/table_rejection', 'returns', changed('src/rejection.rt', 'if h.cte == 0 {', 'if h.ctv == 0 {'), None),
-    ('an arm', 'decode_body', 'by_type/body_status', 'returns-in_default', changed('src/by_type.rt', '3 => words_status(body, p)', '4 => words_status(body, p)'), 'returns-in-3'),
-    ('a constant', 'capi', 'ingr_color', 'returns', changed('src/lib.rt', 'if answer.len() < COLOR_SIZE {', 'if answer.len() < 16 {'), 'returns-then-answer-lt-COLOR_SIZE'),
+    ('a condition', 'kind', 'returns-then-dtc-eq0', CONDITION, 'returns-then-dtc-eq1'),
+    ('a condition that is renamed in the answers', 'kind', 'returns-then-dtc-eq0', RENAMED, None),
+    ('a condition, and another goal that refuses', 'kind', 'returns', CONDITION, 'returns-then-dtc-eq1'),
+    ('a goal of more clauses', 'read', 'returns-then-number-ne1-clause-result_value', changed('src/lib.rt', 'if number != 0 {', 'if number != 1 {'), 'returns-then-number-ne0'),
+    ('a number in hexadecimal', 'lost', 'returns', changed('src/lib.rt', 'if rest[1] != 0x59 {', 'if rest[1] != 0xd9 {'), 'returns-then-rest-ne89'),
+    ('the same number in decimal', 'lost', 'returns', changed('src/lib.rt', 'if rest[1] != 0x59 {', 'if rest[1] != 89 {'), None),
+    ('the second condition of a name', 'table', 'returns', changed('src/lib.rt', 'if h.cte == 0 {', 'if h.cte == 1 {'), 'returns-then-h-eq0-2'),
+    ('a condition of the same name', 'table', 'returns', changed('src/lib.rt', 'if h.cte == 0 {', 'if h.ctv == 0 {'), None),
+    ('an arm', 'status', 'returns-in_default', changed('src/lib.rt', '3 => words(body)', '4 => words(body)'), 'returns-in-3'),
+    ('a constant', 'color', 'returns', changed('src/lib.rt', 'if answer.len() < COLOR_SIZE {', 'if answer.len() < 16 {'), 'returns-then-answer-lt-COLOR_SIZE'),
 ]
 
 # The last line but one of `rt ci`, and whether all edits are good.
@@ -234,6 +255,20 @@ def spoiled(check, wanted, spoil):
         words = ['claims.py'] if check == 'claims' else ['sources.py', check]
         run = subprocess.run([sys.executable, tree / '.ci' / words[0], *words[1:]], capture_output=True, text=True)
         return run.returncode == 1 and wanted in run.stdout, run.stdout + run.stderr
+
+
+@contextlib.contextmanager
+def made():
+    """A tree that has the made crate alone, where edits.py looks."""
+    root = edits.ROOT
+    with tempfile.TemporaryDirectory() as room:
+        for name, text in MADE.items():
+            path = pathlib.Path(room) / 'crates' / 'made' / name
+            path.parent.mkdir(parents=True, exist_ok=True)
+            path.write_text(text)
+        edits.ROOT = pathlib.Path(room)
+        yield
+        edits.ROOT = root
 
 
 def faults_of_edit(crate, text, log):
@@ -280,15 +315,16 @@ def main():
         passed += right
         if not right:
             failed.append(f'{name}: the shape is {"not " if same else ""}the same')
-    for name, crate, place, goal, text, wanted in RENAMES:
-        said = edits.renamed(crate, place, goal, text)
-        passed += said == wanted
-        if said != wanted:
-            failed.append(f'the answer that {name} leaves without its goal: {said}, and not {wanted}')
-    said = faults_of_edit('limits', CONDITION, REFUSED)
-    passed += 'another name' in said
-    if 'another name' not in said:
-        failed.append(f'an answer without its goal, of an edit that another fact refuses: {said}')
+    with made():
+        for name, place, goal, text, wanted in RENAMES:
+            said = edits.renamed('made', place, goal, text)
+            passed += said == wanted
+            if said != wanted:
+                failed.append(f'the answer that {name} leaves without its goal: {said}, and not {wanted}')
+        said = faults_of_edit('made', CONDITION, REFUSED)
+        passed += 'another name' in said
+        if 'another name' not in said:
+            failed.append(f'an answer without its goal, of an edit that another fact refuses: {said}')
     for name, line, good in ENDS:
         right = (no_bad_edit(line) == 0) == good
         passed += right

@@ -72,7 +72,7 @@ class Function:
         for part in re.split(r',(?![^\[(<]*[\])>])', self.parameters):
             name, _, kind = part.partition(':')
             if '&mut' in re.sub(r"'\w+\s*", '', kind) or re.match(r"\s*&\s*('\w+\s+)?mut\s+self", name):
-                yield name.replace('mut ', '').strip()
+                yield re.sub(r"&\s*('\w+\s+)?|\bmut\s", '', name).strip()
 
 
 def public_functions():

@@ -11,9 +11,7 @@ use units::put_long;
 pub fn store_numbers(numbers: &[u32], out: &mut [u8])
     ensures { out.new ≡ over (number_bytes numbers.now) out.old }
 {
-    let mut i = 0;
-    while i < numbers.len() {
+    for i in 0..numbers.len() {
         put_long(out, 4 * i, numbers[i]);
-        i += 1;
     }
 }

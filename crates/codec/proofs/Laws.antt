@@ -1,4 +1,5 @@
 pub mod Lawful
+pub mod Extents
 pub mod Former
 pub mod Leading
 pub mod PairReading

@@ -2,7 +2,7 @@
 use Rattle.std.specs.Prelude.{ℕ, ◌+◌, ◌%◌, not, cond, ◌&&◌, List, [], ◌∷◌, ◌++◌, length, take, eqb, ltb}
 use Rattle.units.specs.LittleEndian.{low_bytes}
 use Rattle.units.specs.Rules.{Rule, rule}
-use Rattle.codec.specs.declared.Extent.{Extent}
+use Rattle.codec.specs.Extent.{Extent}
 use Rattle.codec.specs.Codec.{Codec, taken, fault}
 
 -- with headers: p bytes, and one spare byte where p is odd (house rule)

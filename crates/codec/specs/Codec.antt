@@ -1,9 +1,9 @@
 -- A codec is what a data type says of the body of a scanline, in both directions. `Table` has one for each data type.
-use Rattle.std.specs.Prelude.{ℕ, true, false, cond, List, eqb}
-use Rattle.units.specs.Counts.{n_bytes}
+use Rattle.std.specs.Prelude.{ℕ, cond, List, eqb}
 use Rattle.units.specs.Over.{zeros}
 use Rattle.units.specs.Rules.{Rule}
-use Rattle.codec.specs.declared.Extent.{Extent}
+pub use Rattle.codec.specs.Extent.{Extent}
+unfoldable pub use Rattle.codec.specs.Extent.{kept, taken, fault}
 
 pub record Codec : Type 0 where
   pub data_type : ℕ
@@ -19,18 +19,6 @@ pub record Codec : Type 0 where
   pub body : ℕ → List ℕ → List ℕ
   -- the highest pixel that can be written
   pub highest : ℕ
-
--- the line takes n bytes, whatever its status: the chain goes on
-abbrev pub kept : ℕ → ℕ → Extent
-kept s n = record { status = s; lost = false; used = n_bytes n }
-
--- and is good
-abbrev pub taken : ℕ → Extent
-taken n = kept 0 n
-
--- a fault that loses the line and takes nothing
-abbrev pub fault : ℕ → Extent
-fault s = record { status = s; lost = true; used = n_bytes 0 }
 
 -- the row that a status leaves: the pixels where it is 0, else zeros
 abbrev pub row_of : ℕ → ℕ → List ℕ → List ℕ

@@ -1,3 +1,4 @@
+pub mod Extent
 pub mod Codec
 pub mod PackedPixels
 pub mod BytePixels

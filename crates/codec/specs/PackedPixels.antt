@@ -4,7 +4,7 @@ use Rattle.units.specs.Counts.{word_bytes}
 use Rattle.units.specs.Rules.{Rule, rule}
 use Rattle.units.specs.Words.{words, words_to_bytes, word_count}
 use Rattle.packing.specs.Packing.{packed_count, word_bits, any_set, packed_words}
-use Rattle.codec.specs.declared.Extent.{Extent}
+use Rattle.codec.specs.Extent.{Extent}
 use Rattle.codec.specs.Codec.{Codec, kept, fault}
 
 -- the first p bits are the pixels, those behind them are spare

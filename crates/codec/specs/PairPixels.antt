@@ -4,7 +4,7 @@ use Rattle.units.specs.Counts.{word_bytes}
 use Rattle.units.specs.Rules.{Rule, rule}
 use Rattle.units.specs.Words.{words, words_to_bytes, word_count}
 use Rattle.cutting.specs.Pieces.{value_pieces}
-use Rattle.codec.specs.declared.Extent.{Extent}
+use Rattle.codec.specs.Extent.{Extent}
 use Rattle.codec.specs.Codec.{Codec, taken, fault}
 
 -- pairs of words, value then count

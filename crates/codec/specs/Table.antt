@@ -1,7 +1,7 @@
 -- One table of data types: a codec each. A data type is read and written exactly where the table has it.
 use Rattle.std.specs.Prelude.{ℕ, Bool, true, false, cond, ◌||◌, List, [], ◌∷◌, eqb}
 use Rattle.units.specs.Rules.{Rule, rule}
-use Rattle.codec.specs.declared.Extent.{Extent}
+use Rattle.codec.specs.Extent.{Extent}
 use Rattle.codec.specs.Codec.{Codec, fault}
 use Rattle.codec.specs.PackedPixels.{packed_codec}
 use Rattle.codec.specs.BytePixels.{byte_codec}

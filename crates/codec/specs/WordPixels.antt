@@ -3,7 +3,7 @@ use Rattle.std.specs.Prelude.{ℕ, not, cond, List, [], ◌∷◌, take, eqb, lt
 use Rattle.units.specs.Counts.{word_bytes}
 use Rattle.units.specs.Rules.{Rule, rule}
 use Rattle.units.specs.Words.{words, words_to_bytes, word_count}
-use Rattle.codec.specs.declared.Extent.{Extent}
+use Rattle.codec.specs.Extent.{Extent}
 use Rattle.codec.specs.Codec.{Codec, taken, fault}
 
 -- with headers: p words

@@ -1,41 +1,31 @@
 // What each data type says of a scanline's body, in both directions: its pixels and statuses when it is read, its bytes
 // when it is written.
 //
-// Definitions and laws, in specs/, and the answer of a reader of scanlines without headers.
+// Definitions and laws, in specs/, and the answer of a reader of scanlines.
 #![tactic(auto)]
 
-ghost use Rattle.std.specs.Prelude.{◌≡◌};
-ghost use Rattle.codec.specs.Codec as codecs;
+ghost use Rattle.std.specs.Prelude.{◌≡◌, Ok};
+ghost use Rattle.codec.specs.Extent as extents;
 
+use refusals::Fault;
 use units::Bytes;
 
-// What a scanline without a header takes of the bytes that are left: its status, whether it and all after it are lost,
-// and how many bytes it takes, 0 where it is lost.
+/// A scanline that is not lost: how many bytes on the next one starts, and the fault of its body, if it has one. Where a scanline is lost,
+/// with all after it, its reader answers the fault alone.
 #[derive(Clone, Copy)]
-pub struct Extent {
-    pub status: u8,
-    pub lost: bool,
+pub struct Scanline {
     pub used: Bytes,
+    pub body: Result<(), Fault>,
 }
 
-// A good scanline of n bytes.
-pub fn taken(n: Bytes) -> Extent
-    ensures { result ≡ codecs.taken n.0 }
-{
-    Extent {
-        status: 0,
-        lost: false,
-        used: n,
-    }
-}
-
-// A fault that loses the scanline: it takes nothing.
-pub fn fault(status: u8) -> Extent
-    ensures { result ≡ codecs.fault status }
-{
-    Extent {
-        status,
-        lost: true,
-        used: Bytes(0),
+impl Scanline {
+    // A good scanline of n bytes.
+    pub fn taken(n: Bytes) -> Scanline
+        ensures { extents.extent_of (Ok result) ≡ extents.taken n.0 }
+    {
+        Scanline {
+            used: n,
+            body: Ok(()),
+        }
     }
 }

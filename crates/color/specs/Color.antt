@@ -1,9 +1,10 @@
 -- "Colours": the color of a pixel value in a file, as the paper's numbers; and paper 02, P7, "Ink on paper".
-use Rattle.std.specs.Prelude.{ℕ, ◌+◌, ◌-◌, ◌*◌, Bool, cond, ◌&&◌, ◌||◌, List, eqb, ltb}
+use Rattle.std.specs.Prelude.{ℕ, ◌+◌, ◌-◌, ◌*◌, Bool, cond, ◌&&◌, ◌||◌, List, eqb, ltb, Result, Ok, Err}
+use Rattle.refusals.specs.declared.Rejection.{Rejection}
+use Rattle.refusals.specs.Rejections.{number_of}
 use Rattle.units.specs.LittleEndian.{byte_at, u16_at}
 use Rattle.units.specs.Scan.{scan}
-use Rattle.color.specs.declared.ColorAnswer.{ColorAnswer}
-use Rattle.color.specs.declared.ColorAnswer.TheVariants.{Rejected, Found}
+use Rattle.color.specs.declared.Rgb.{Rgb}
 use Rattle.fields.specs.Fields.{fields_of}
 use Rattle.header.specs.Rejections.{rejection_to22, entry_start, slot_at}
 
@@ -71,6 +72,6 @@ abbrev pub color_reading : List ℕ → ℕ → ColorNumbers
 color_reading f v = cond (eqb (rejection_to22 f) 0) (shown_color f v) (no_color (rejection_to22 f))
 
 -- the paper's numbers of an answer
-abbrev pub color_numbers : ColorAnswer → ColorNumbers
-color_numbers (Rejected n) = no_color n
-color_numbers (Found c) = color c.red c.green c.blue
+abbrev pub color_numbers : Result Rgb Rejection → ColorNumbers
+color_numbers (Err r) = no_color (number_of r)
+color_numbers (Ok c) = color c.red c.green c.blue

@@ -1,36 +1,39 @@
 // Type 2: a byte for each pixel.
 ghost use Rattle.std.specs.Prelude.{◌≡◌, length};
+ghost use Rattle.refusals.specs.Faults.{status_of};
 ghost use Rattle.units.specs.Over.{over, zeros};
 ghost use Rattle.units.specs.Rules.{first};
 ghost use Rattle.units.specs.Words.{word_count, words_to_bytes};
+ghost use Rattle.codec.specs.Extent.{extent_of};
 ghost use Rattle.codec.specs.BytePixels.{byte_rules, byte_pixels, byte_extent};
 
-use codec::{Extent, fault, taken};
+use codec::Scanline;
+use refusals::Fault;
 use slices::clear;
 use units::{Bytes, Words, bytes_to_words, lesser, widen_words, words_to_bytes};
 
 // The status of a body for a row of p pixels: a byte for each, and a spare byte after an odd number of them. The spare byte is what is
 // left of the body, so no sum can overflow.
-pub fn bytes_status(body: &[u8], p: usize) -> u8
-    ensures { result ≡ first (byte_rules body.now p) }
+pub fn bytes_status(body: &[u8], p: usize) -> Result<(), Fault>
+    ensures { status_of result ≡ first (byte_rules body.now p) }
 {
     if body.len() < p {
-        return 6;
+        return Err(Fault::WordCount);
     }
     if body.len() - p != p % 2 {
-        return 6;
+        return Err(Fault::WordCount);
     }
-    0
+    Ok(())
 }
 
 // What a scanline of p pixels takes of the bytes that are left: no spare byte.
-pub fn bytes_extent(rest: &[u8], p: usize) -> Extent
-    ensures { result ≡ byte_extent rest.now p }
+pub fn bytes_extent(rest: &[u8], p: usize) -> Result<Scanline, Fault>
+    ensures { extent_of result ≡ byte_extent rest.now p }
 {
     if rest.len() < p {
-        return fault(1);
+        return Err(Fault::PastEnd);
     }
-    taken(Bytes(p))
+    Ok(Scanline::taken(Bytes(p)))
 }
 
 // Stores a row's pixels as two bytes each, low byte first, as far as the body goes, and clears what is left of the row.

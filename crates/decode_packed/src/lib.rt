@@ -4,48 +4,49 @@
 #![tactic(auto)]
 
 ghost use Rattle.std.specs.Prelude.{◌≡◌, length};
+ghost use Rattle.refusals.specs.Faults.{status_of};
 ghost use Rattle.units.specs.Over.{over, zeros};
 ghost use Rattle.units.specs.Rules.{first};
 ghost use Rattle.units.specs.Words.{word_count, words_to_bytes};
 ghost use Rattle.packing.specs.Packing.{packed_count};
+ghost use Rattle.codec.specs.Extent.{extent_of};
 ghost use Rattle.codec.specs.PackedPixels.{packed_pixels, packed_rules, packed_extent, spare_set};
 
-use codec::{Extent, fault};
+use codec::Scanline;
 use packing::packed_count;
+use refusals::Fault;
 use slices::clear;
 use units::{Bytes, Words, u16_at, word_count, words_to_bytes};
 use unpacking::{pixels_held, unpack};
 use unpacking_bytes::unpack_bytes;
 
 // The status of a body for a row of p pixels: as few words as hold the row, with no spare bit set.
-pub fn packed_status(body: &[u8], p: usize) -> u8
-    ensures { result ≡ first (packed_rules body.now p) }
+pub fn packed_status(body: &[u8], p: usize) -> Result<(), Fault>
+    ensures { status_of result ≡ first (packed_rules body.now p) }
 {
     if word_count(body).0 != packed_count(p) {
-        return 6;
+        return Err(Fault::WordCount);
     }
     if spare_set(body, p) {
-        return 10;
+        return Err(Fault::SpareBit);
     }
-    0
+    Ok(())
 }
 
 // What a scanline of p pixels takes of the bytes that are left: as few words as hold it. A spare bit that is set does not lose the
 // line, since its length is known.
-pub fn packed_extent(rest: &[u8], p: usize) -> Extent
-    ensures { result ≡ packed_extent rest.now p }
+pub fn packed_extent(rest: &[u8], p: usize) -> Result<Scanline, Fault>
+    ensures { extent_of result ≡ packed_extent rest.now p }
 {
     let count = packed_count(p);
     if word_count(rest).0 < count {
-        return fault(1);
+        return Err(Fault::PastEnd);
     }
     let size = words_to_bytes(Words(count)).0;
-    let status = packed_status(&rest[..size], p);
-    Extent {
-        status,
-        lost: false,
+    Ok(Scanline {
         used: Bytes(size),
-    }
+        body: packed_status(&rest[..size], p),
+    })
 }
 
 // Whether one of the last word's bits that no pixel has is set: they are its lowest.

@@ -1,9 +1,9 @@
 -- What reading a scanline into a row of pixels answers and leaves there.
 use Rattle.std.specs.Prelude.{ℕ, ◌≡◌, List}
+use Rattle.codec.specs.Extent.{Extent}
 use Rattle.layout.specs.Scanline.{Reading, Step}
-use Rattle.scan_scanline.specs.declared.Scanline.{Scanline}
 
-pub record IsLine (s : Step) (x : Reading) (r : Scanline) (row : List ℕ) : Type 0 where
+pub record IsLine (s : Step) (x : Reading) (r : Extent) (row : List ℕ) : Type 0 where
   pub status : r.status ≡ x.status
   pub lost : r.lost ≡ s.lost
   pub used : r.used.0 ≡ s.used.0

@@ -8,49 +8,66 @@ ghost use Rattle.std.specs.Prelude.{◌≡◌, ◌++◌, ◌-◌, ◌≤◌, len
 ghost use Rattle.units.specs.Counts.{word_bytes};
 ghost use Rattle.units.specs.Over.{over, zeros};
 ghost use Rattle.units.specs.Words.{word_count, words_to_bytes};
+ghost use Rattle.codec.specs.Extent.{extent_of};
 ghost use Rattle.codec.specs.Table.{body_pixels};
 ghost use Rattle.layout.specs.Scanline.{step_of, reading_of};
 ghost use Rattle.scan_scanline.specs.Answer.{IsScan};
 ghost use Rattle.decode_scanline.specs.Answer.{IsLine};
 
 use decode_body::{paint_body, paint_body_bytes};
+use refusals::Fault;
 use scan_scanline::{Scanline, body_start, first_column, scan_scanline};
-use slices::{clear, fill};
 use units::{Bytes, Words, bytes_to_words, words_to_bytes};
 
 // Reads a scanline into a row of pixels.
-pub fn read_scanline(scn: u8, dtc: u16, number: u16, rest: &[u8], row: &mut [u16]) -> Scanline
-    ensures { IsLine (step_of scn dtc (length row.old) rest.now) (reading_of scn dtc (length row.old) number rest.now) result row.new }
+pub fn read_scanline(
+    scn: u8,
+    dtc: u16,
+    number: u16,
+    rest: &[u8],
+    row: &mut [u16],
+) -> Result<Scanline, Fault>
+    ensures { IsLine (step_of scn dtc (length row.old) rest.now) (reading_of scn dtc (length row.old) number rest.now) (extent_of result) row.new }
 {
-    let line = scan_scanline(scn, dtc, number, row.len(), rest);
-    if line.status != 0 {
-        fill(row, 0);
-        return line;
+    let read = scan_scanline(scn, dtc, number, row.len(), rest);
+    match read {
+        Ok(line) if line.body == Ok(()) => {
+            let from = body_start(scn);
+            let column = first_column(scn, rest);
+            let to = line.used.0;
+            paint_from(dtc, &rest[from..to], column, row);
+        }
+        _ => row.fill(0),
     }
-    let from = body_start(scn);
-    let column = first_column(scn, rest);
-    let to = line.used.0;
-    paint_from(dtc, &rest[from..to], column, row);
-    line
+    read
 }
 
 // Reads a scanline into a row of bytes, two for each pixel, low byte first. An odd last byte is left as it was.
-pub fn read_scanline_bytes(scn: u8, dtc: u16, number: u16, rest: &[u8], row: &mut [u8]) -> Scanline
-    ensures scan { IsScan (step_of scn dtc (word_count row.old).0 rest.now) (reading_of scn dtc (word_count row.old).0 number rest.now) result }
+pub fn read_scanline_bytes(
+    scn: u8,
+    dtc: u16,
+    number: u16,
+    rest: &[u8],
+    row: &mut [u8],
+) -> Result<Scanline, Fault>
+    ensures scan { IsScan (step_of scn dtc (word_count row.old).0 rest.now) (reading_of scn dtc (word_count row.old).0 number rest.now) (extent_of result) }
     ensures row_after { row.new ≡ over (words_to_bytes (reading_of scn dtc (word_count row.old).0 number rest.now).row) row.old }
 {
     let p = bytes_to_words(Bytes(row.len())).0;
-    let line = scan_scanline(scn, dtc, number, p, rest);
-    if line.status != 0 {
-        let end = words_to_bytes(Words(p)).0;
-        clear(&mut row[..end]);
-        return line;
+    let read = scan_scanline(scn, dtc, number, p, rest);
+    match read {
+        Ok(line) if line.body == Ok(()) => {
+            let from = body_start(scn);
+            let column = first_column(scn, rest);
+            let to = line.used.0;
+            paint_bytes_from(dtc, &rest[from..to], column, p, row);
+        }
+        _ => {
+            let end = words_to_bytes(Words(p)).0;
+            row[..end].fill(0);
+        }
     }
-    let from = body_start(scn);
-    let column = first_column(scn, rest);
-    let to = line.used.0;
-    paint_bytes_from(dtc, &rest[from..to], column, p, row);
-    line
+    read
 }
 
 // Paints the pixels of a body into a row from a column on, and clears the ones before it.
@@ -58,7 +75,7 @@ fn paint_from(dtc: u16, body: &[u8], column: usize, row: &mut [u16])
     requires { column ≤ length row.old }
     ensures { row.new ≡ zeros column ++ over (body_pixels dtc body.now (length row.old - column)) (drop column row.old) }
 {
-    fill(&mut row[..column], 0);
+    row[..column].fill(0);
     paint_body(dtc, body, &mut row[column..]);
 }
 
@@ -74,6 +91,6 @@ fn paint_bytes_from(dtc: u16, body: &[u8], column: usize, p: usize, row: &mut [u
         return;
     }
     let start = words_to_bytes(Words(column)).0;
-    clear(&mut row[..start]);
+    row[..start].fill(0);
     paint_body_bytes(dtc, body, &mut row[start..start + size]);
 }

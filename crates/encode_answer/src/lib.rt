@@ -3,70 +3,37 @@
 // They are known before a byte is stored.
 #![tactic(auto)]
 
-ghost use Rattle.std.specs.Prelude.{◌≡◌, ◌&&◌, ◌||◌, eqb, ltb};
-ghost use Rattle.units.specs.Counts.{n_bytes};
+ghost use Rattle.std.specs.Prelude.{◌≡◌, ◌||◌, ltb};
 ghost use Rattle.units.specs.Rules.{first};
 ghost use Rattle.encode_answer.specs.Sizes.{most_words, size_rules, answer_by};
 ghost use Rattle.encode_answer.specs.Answer.{write_numbers};
 
+use refusals::Rejection;
 use units::{Bytes, Words};
 
 // The most words of a body that a scanline header can count.
 const MOST_WORDS: Words = Words(65533);
 
-// The number of the rejection or 0, and the written length, 0 where nothing is written.
-#[derive(Clone, Copy)]
-pub struct WriteAnswer {
-    pub number: u16,
-    pub size: Bytes,
-}
-
-// Nothing is written.
-pub fn rejected(number: u16) -> WriteAnswer
-    ensures { result ≡ record { number = number; size = n_bytes 0 } }
-{
-    WriteAnswer {
-        number,
-        size: Bytes(0),
-    }
-}
-
-// 27, 10 and 28, or 0 and the length, for a file of `size` bytes and an output of `room`. `long` says that some body is too long for a
-// scanline header to count.
-pub fn answer_by_size(scn: u8, long: bool, size: usize, room: usize) -> WriteAnswer
+// The length of a file of `size` bytes, or its rejection where that is more than the `room` of the output, or than the format has. `long`
+// says that some body is too long for a scanline header to count.
+pub fn answer_by_size(scn: u8, long: bool, size: usize, room: usize) -> Result<Bytes, Rejection>
     ensures { write_numbers result ≡ answer_by (first (size_rules scn long size room)) size }
 {
-    if uncounted(scn, long) {
-        return rejected(27);
+    if scn == 1 && long {
+        return Err(Rejection::BodyTooLong);
     }
     if 2147483647 < size {
-        return rejected(10);
+        return Err(Rejection::TooLong);
     }
     if room < size {
-        return rejected(28);
+        return Err(Rejection::OutputRoom);
     }
-    WriteAnswer {
-        number: 0,
-        size: Bytes(size),
-    }
-}
-
-// 27: a scanline header is to count a body that is too long for it.
-fn uncounted(scn: u8, long: bool) -> bool
-    ensures { result ≡ (eqb scn 1 && long) }
-{
-    if scn == 1 {
-        return long;
-    }
-    false
+    Ok(Bytes(size))
 }
 
 // Whether a body is too long, this one or one before it.
 pub fn or_long(long: bool, body: Words) -> bool
     ensures { result ≡ (long || ltb most_words.0 body.0) }
 {
-    if long {
-        return true;
-    }
-    MOST_WORDS.0 < body.0
+    long || MOST_WORDS.0 < body.0
 }

@@ -1,4 +1,3 @@
-pub mod ByType
 pub mod Bytes
 pub mod Left
 pub mod Most

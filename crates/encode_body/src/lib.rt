@@ -26,6 +26,7 @@ use units::{Bytes, Words, put_word, words_to_bytes};
 use word_body::write_words;
 
 // Puts the body of a row over the start of the output. Any other data type has no bytes.
+#[tactic(auto, using(codec::proofs::Laws::Table::no_codec_lem, units::proofs::Laws::Over::over_nil), unfolding(codec::specs::Table::codec_of))]
 pub fn write_body(dtc: u16, scn: u8, row: &[u16], out: &mut [u8]) -> Bytes
     ensures result_value { result.0 ≡ length (body_bytes dtc scn row.now) }
     ensures out_after { out.new ≡ over (body_bytes dtc scn row.now) out.old }
@@ -49,6 +50,7 @@ pub fn body_size(dtc: u16, scn: u8, row: &[u16]) -> Bytes
 }
 
 // The highest pixel that can be written.
+#[tactic(auto, using(codec::proofs::Laws::Table::no_codec_lem), unfolding(codec::specs::Table::codec_of))]
 pub fn highest(dtc: u16) -> u16
     ensures { result ≡ (codec_of dtc).highest }
 {
@@ -62,7 +64,8 @@ pub fn highest(dtc: u16) -> u16
     }
 }
 
-// Stores a word and answers the place after it.
+// Stores a word and answers the place after it. The buffer and the place stay two parameters: a struct that holds a `&mut` is no
+// plainer, as each method would ensure that it stays the same one.
 fn put_next(out: &mut [u8], at: usize, w: u16) -> usize
     requires { at + word_bytes 1 < 2 ^ 64 }
     ensures value { result ≡ at + word_bytes 1 }

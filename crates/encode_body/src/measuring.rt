@@ -1,17 +1,11 @@
 // Runs of equal pixels in a row.
-ghost use Rattle.std.specs.Prelude.{◌≡◌, ◌+◌, drop};
+ghost use Rattle.std.specs.Prelude.{◌≡◌, ◌≤◌, length};
 ghost use Rattle.codec.specs.Leading.{leading};
 
-// Where the pixels of value `v` that start at `from` end.
-pub fn run_end(row: &[u16], from: usize, v: u16) -> usize
-    ensures { result ≡ from + leading v (drop from row.now) }
+// How many pixels at the start have the value `v`.
+pub fn run_length(pixels: &[u16], v: u16) -> usize
+    ensures value { result ≡ leading v pixels.now }
+    ensures within { result ≤ length pixels.now }
 {
-    let mut i = from;
-    while i < row.len() {
-        if row[i] != v {
-            return i;
-        }
-        i += 1;
-    }
-    i
+    pixels.iter().take_while(|pixel| **pixel == v).count()
 }

@@ -7,7 +7,7 @@ ghost use Rattle.units.specs.Words.{words_to_bytes};
 ghost use Rattle.cutting.specs.Pieces.{value_pieces};
 ghost use Rattle.codec.specs.PairPixels.{pair_body};
 
-use crate::measuring::run_end;
+use crate::measuring::run_length;
 use crate::put_next;
 use units::Bytes;
 
@@ -17,18 +17,18 @@ pub fn write_pairs(row: &[u16], out: &mut [u8]) -> Bytes
     ensures out_after { out.new ≡ over (pair_body row.now) out.old }
 {
     let mut at = 0;
-    let mut i = 0;
-    while i < row.len() {
-        let v = row[i];
-        let end = run_end(row, i + 1, v);
-        at = put_pairs(out, at, v, end - i);
-        i = end;
+    let mut rest = row;
+    while !rest.is_empty() {
+        let v = rest[0];
+        let n = 1 + run_length(&rest[1..], v);
+        at = put_pairs(out, at, v, n);
+        rest = &rest[n..];
     }
     Bytes(at)
 }
 
 // One run of n pixels: above 32,767 a full piece, then the pieces of the rest; up to 32,767 one piece. Each has the value before it
-// (docs/CUTTING.md). Answers the place after it.
+// (docs/CUTTING.md). Answers the place after it. One function with `put_run` is no plainer: only the loop's condition is the same.
 fn put_pairs(out: &mut [u8], at: usize, v: u16, n: usize) -> usize
     requires { at + word_bytes (length (value_pieces v n)) < 2 ^ 64 }
     ensures value { result ≡ at + word_bytes (length (value_pieces v n)) }

@@ -7,7 +7,7 @@ ghost use Rattle.units.specs.Words.{words_to_bytes};
 ghost use Rattle.cutting.specs.Pieces.{level_pieces};
 ghost use Rattle.codec.specs.RunPixels.{run_body};
 
-use crate::measuring::run_end;
+use crate::measuring::run_length;
 use crate::put_next;
 use units::Bytes;
 
@@ -16,15 +16,16 @@ pub fn write_runs(row: &[u16], out: &mut [u8]) -> Bytes
     ensures result_value { result.0 ≡ length (run_body row.now) }
     ensures out_after { out.new ≡ over (run_body row.now) out.old }
 {
-    // the level of the run that starts at pixel i, after the first OFF run, which can be empty
+    let first = run_length(row, 0);
+    let mut at = put_run(out, 0, first);
+    // the pixels after the first OFF run, which can be empty, and the level of the run that they start with
+    let mut rest = &row[first..];
     let mut level: u16 = 1;
-    let mut i = run_end(row, 0, 0);
-    let mut at = put_run(out, 0, i);
-    while i < row.len() {
-        let end = run_end(row, i + 1, level);
-        at = put_run(out, at, end - i);
+    while !rest.is_empty() {
+        let n = 1 + run_length(&rest[1..], level);
+        at = put_run(out, at, n);
+        rest = &rest[n..];
         level = 1 - level;
-        i = end;
     }
     if level == 1 {
         return Bytes(at);

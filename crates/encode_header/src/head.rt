@@ -28,7 +28,7 @@ pub fn write_header(job: Job, table: &[u8], out: &mut [u8]) -> Bytes
 pub fn header_size(table: &[u8]) -> Bytes
     ensures { result.0 ≡ (header_size table.now).0 }
 {
-    if table.len() == 0 {
+    if table.is_empty() {
         return blocks_to_bytes(header_blocks(table));
     }
     Bytes(768 + table.len())
@@ -45,7 +45,7 @@ fn words_to_follow(table: &[u8]) -> u16
 fn header_blocks(table: &[u8]) -> Blocks
     ensures { result.0 ≡ (blocks_of table.now).0 }
 {
-    if table.len() == 0 {
+    if table.is_empty() {
         Blocks(2)
     } else {
         Blocks(3)
@@ -56,10 +56,11 @@ fn header_blocks(table: &[u8]) -> Blocks
 fn ctv_of(table: &[u8]) -> u16
     ensures { result ≡ ctv_of table.now }
 {
-    if table.len() == 0 { 0 } else { 1 }
+    if table.is_empty() { 0 } else { 1 }
 }
 
 // The fields before the table, over zeros: only what is not 0 is stored.
+#[tactic(auto, unfolding(crate::specs::Laws::Header::with_fields))]
 fn put_fields(job: Job, wtf: u16, ctv: u16, out: &mut [u8])
     ensures { out.new ≡ with_fields job wtf ctv out.old }
 {
@@ -69,6 +70,7 @@ fn put_fields(job: Job, wtf: u16, ctv: u16, out: &mut [u8])
 }
 
 // HTC, WTF, DTC, VER and CTV
+#[tactic(auto, using(units::proofs::Laws::Stores::high_byte), unfolding(crate::specs::Laws::Header::with_start))]
 fn put_start(job: Job, wtf: u16, ctv: u16, out: &mut [u8])
     ensures { out.new ≡ with_start job wtf ctv out.old }
 {
@@ -80,6 +82,7 @@ fn put_start(job: Job, wtf: u16, ctv: u16, out: &mut [u8])
 }
 
 // PPL, NOL, DRS, SLO and SCN
+#[tactic(auto, using(units::proofs::Laws::Stores::high_byte), unfolding(crate::specs::Laws::Header::with_sizes))]
 fn put_sizes(job: Job, out: &mut [u8])
     ensures { out.new ≡ with_sizes job out.old }
 {
@@ -91,6 +94,7 @@ fn put_sizes(job: Job, out: &mut [u8])
 }
 
 // 1.0 on the diagonal of TRN, and as ASR: the last two of a float's eight bytes
+#[tactic(auto, unfolding(crate::specs::Laws::Header::with_floats))]
 fn put_floats(out: &mut [u8])
     ensures { out.new ≡ with_floats out.old }
 {

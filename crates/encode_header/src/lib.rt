@@ -8,7 +8,7 @@ pub use head::{header_size, write_header};
 pub use resolution::drs_bits;
 
 // What is written, within the format's limits: the fields by the format's names, DRS as its 16 stored bits.
-#[derive(Clone, Copy)]
+#[derive(Clone, Copy, Debug, PartialEq, Eq)]
 pub struct Job {
     pub dtc: u16,
     pub ppl: u32,

@@ -6,9 +6,5 @@ ghost use Rattle.encode_header.specs.Resolution.{drs_bits};
 pub fn drs_bits(drs: i16) -> u16
     ensures { result ≡ drs_bits drs }
 {
-    if drs < 0 {
-        // Turned, the bits of a negative number are those of one that a cast takes.
-        return !(!drs as u16);
-    }
-    drs as u16
+    drs.cast_unsigned()
 }

@@ -6,32 +6,43 @@
 
 mod given;
 
-ghost use Rattle.std.specs.Prelude.{◌≡◌, ◌≤◌, [], ◌∷◌, ◌++◌, length, drop};
+ghost use Rattle.std.specs.Prelude.{◌≡◌, ◌+◌, ◌<◌, ◌≤◌, [], ◌∷◌, ◌++◌, length, drop};
 ghost use Rattle.units.specs.Counts.{n_blocks, bytes_of_blocks};
 ghost use Rattle.units.specs.Over.{over};
 ghost use Rattle.units.specs.Rules.{first};
 ghost use Rattle.units.specs.Words.{words_to_bytes};
+ghost use Rattle.encode_header.specs.Picture.{row_at};
 ghost use Rattle.encode_raster.specs.File.{line_bytes, lines_of};
 ghost use Rattle.encode_answer.specs.Answer.{write_numbers};
+ghost use Rattle.encode_answer.specs.Sizes.{answer_by};
 ghost use Rattle.encode_raster.specs.Writing.{writing, out_after};
 ghost use Rattle.encode_raster.specs.Answer.{picture};
-ghost use Rattle.encode_raster.specs.Laws.Answer.{bare, head_size, plan_rules, plan_size, Within, Measured, LineFits, LinesFit};
+ghost use Rattle.encode_raster.specs.Laws.Answer.{bare, head_size, plan_rules, Within, Measured, LineFits, LinesFit};
 
-use encode_answer::{WriteAnswer, answer_by_size, or_long, rejected};
+use encode_answer::{answer_by_size, or_long};
 use encode_body::{body_size, highest, write_body};
 use encode_header::{Job, header_size, write_header};
 use given::{any_above, field_rejection};
-use std::num::wrapping_add_u16;
+use refusals::Rejection;
 use units::{Bytes, bytes_to_words, store_words};
 
-// The bytes of all scanlines, and whether a body is too long for a scanline header to count.
-#[derive(Clone, Copy)]
+// The bytes of all scanlines, and whether a body is too long for a scanline header to count. Both are told, and no `Result`: without
+// scanline headers a long body is no rejection.
+#[derive(Clone, Copy, Debug, PartialEq, Eq)]
 pub struct Measure {
     pub size: Bytes,
     pub long: bool,
 }
 
-// Writes a file: the fields by the format's names, a color table of 0 or 768 bytes, and the pixels row after row.
+// The fields of a sheet and its pixels, within the limits.
+#[derive(Clone, Copy)]
+struct Sheet<'a> {
+    job: Job,
+    pixels: &'a [u16],
+    ghost within: { Within job pixels.now },
+}
+
+// Writes a file: the fields by the format's names, a color table of 0 or 768 bytes, and the pixels row after row. Answers its length.
 pub fn write_raster(
     dtc: u32,
     ppl: u32,
@@ -42,14 +53,11 @@ pub fn write_raster(
     table: &[u8],
     pixels: &[u16],
     out: &mut [u8],
-) -> WriteAnswer
+) -> Result<Bytes, Rejection>
     ensures result_value { write_numbers result ≡ writing (picture dtc ppl nol slo scn drs table.now pixels.now) (length out.old) }
     ensures out_after { out.new ≡ out_after (picture dtc ppl nol slo scn drs table.now pixels.now) out.old }
 {
-    let number = field_rejection(dtc, ppl, nol, slo, scn, table.len(), pixels.len());
-    if number != 0 {
-        return rejected(number);
-    }
+    field_rejection(dtc, ppl, nol, slo, scn, table.len(), pixels.len())?;
     let job = Job {
         dtc: dtc as u16,
         ppl,
@@ -58,53 +66,66 @@ pub fn write_raster(
         scn: scn as u8,
         drs,
     };
-    let plan = plan_file(job, header_size(table), pixels, out.len());
-    if plan.number != 0 {
-        return plan;
-    }
+    let sheet = Sheet { job, pixels };
+    let size = sheet.plan(header_size(table), out.len())?;
     let start = write_header(job, table, out).0;
-    write_lines(job, pixels, &mut out[start..]);
-    plan
+    sheet.write_lines(&mut out[start..]);
+    Ok(size)
 }
 
-// 26, 27, 10 and 28, or 0 and the file's length, for a header of `head` bytes and an output of `room`.
-fn plan_file(job: Job, head: Bytes, pixels: &[u16], room: usize) -> WriteAnswer
-    requires within { Within job pixels.now }
-    requires head_bound { head.0 ≤ (bytes_of_blocks (n_blocks 3)).0 }
-    ensures number_value { result.number ≡ first (plan_rules job pixels.now head.0 room) }
-    ensures size_value { result.size.0 ≡ plan_size result.number job pixels.now head.0 }
-{
-    let end = (job.nol as usize) * (job.ppl as usize);
-    if any_above(&pixels[0..end], highest(job.dtc)) {
-        return rejected(26);
+impl Sheet<'_> {
+    // The length of the file, or 26, 27, 10 or 28, for a header of `head` bytes and an output of `room`.
+    fn plan(&self, head: Bytes, room: usize) -> Result<Bytes, Rejection>
+        requires { head.0 ≤ (bytes_of_blocks (n_blocks 3)).0 }
+        ensures { write_numbers result ≡ answer_by (first (plan_rules self.now.job self.now.pixels.now head.0 room)) (head.0 + length (lines_of (bare self.now.job self.now.pixels.now) self.now.job.nol)) }
+    {
+        let end = (self.job.nol as usize) * (self.job.ppl as usize);
+        if any_above(&self.pixels[..end], highest(self.job.dtc)) {
+            return Err(Rejection::PixelTooHigh);
+        }
+        let lines = self.measure();
+        answer_by_size(self.job.scn, lines.long, head.0 + lines.size.0, room)
     }
-    let lines = measure_lines(job, pixels);
-    let size = head.0 + lines.size.0;
-    answer_by_size(job.scn, lines.long, size, room)
-}
 
-// Measures the scanlines before one is written.
-fn measure_lines(job: Job, pixels: &[u16]) -> Measure
-    requires { Within job pixels.now }
-    ensures { Measured (bare job pixels.now) job.nol result }
-{
-    let p = job.ppl as usize;
-    let n = job.nol as usize;
-    let head = line_head(job.scn).0;
-    let mut size = 0;
-    let mut long = false;
-    let mut k = 0;
-    while k < n {
+    // Measures the scanlines before one is written.
+    fn measure(&self) -> Measure
+        ensures { Measured (bare self.now.job self.now.pixels.now) self.now.job.nol result }
+    {
+        let head = line_head(self.job.scn).0;
+        let mut size = 0;
+        let mut long = false;
+        for k in 0..self.job.nol as usize {
+            let body = body_size(self.job.dtc, self.job.scn, self.row(k));
+            size += head + body.0;
+            long = or_long(long, bytes_to_words(body));
+        }
+        Measure {
+            size: Bytes(size),
+            long,
+        }
+    }
+
+    // Writes the scanlines one after the other. Past 65,535 the line number wraps to 0.
+    fn write_lines(&self, out: &mut [u8])
+        requires { LinesFit (bare self.now.job self.now.pixels.now) self.now.job.nol out.old }
+        ensures { out.new ≡ lines_of (bare self.now.job self.now.pixels.now) self.now.job.nol ++ drop (length (lines_of (bare self.now.job self.now.pixels.now) self.now.job.nol)) out.old }
+    {
+        let mut at = 0;
+        let mut number: u16 = 1;
+        for k in 0..self.job.nol as usize {
+            at += write_line(self.job, number, self.row(k), &mut out[at..]).0;
+            number = number.wrapping_add(1);
+        }
+    }
+
+    // The pixels of row k.
+    fn row(&self, k: usize) -> &[u16]
+        requires { k < self.now.job.nol }
+        ensures { result.now ≡ row_at (bare self.now.job self.now.pixels.now) k }
+    {
+        let p = self.job.ppl as usize;
         let from = k * p;
-        let to = from + p;
-        let body = body_size(job.dtc, job.scn, &pixels[from..to]);
-        size += head + body.0;
-        long = or_long(long, bytes_to_words(body));
-        k += 1;
-    }
-    Measure {
-        size: Bytes(size),
-        long,
+        &self.pixels[from..from + p]
     }
 }
 
@@ -113,27 +134,6 @@ fn line_head(scn: u8) -> Bytes
     ensures { result.0 ≡ head_size scn }
 {
     if scn == 1 { Bytes(8) } else { Bytes(0) }
-}
-
-// Writes the scanlines one after the other. Past 65,535 the line number wraps to 0.
-fn write_lines(job: Job, pixels: &[u16], out: &mut [u8])
-    requires within { Within job pixels.now }
-    requires lines_fit { LinesFit (bare job pixels.now) job.nol out.old }
-    ensures { out.new ≡ lines_of (bare job pixels.now) job.nol ++ drop (length (lines_of (bare job pixels.now) job.nol)) out.old }
-{
-    let p = job.ppl as usize;
-    let n = job.nol as usize;
-    let mut at = 0;
-    let mut number = 1;
-    let mut k = 0;
-    while k < n {
-        let from = k * p;
-        let to = from + p;
-        let size = write_line(job, number, &pixels[from..to], &mut out[at..]);
-        at += size.0;
-        number = wrapping_add_u16(number, 1);
-        k += 1;
-    }
 }
 
 // Writes one scanline: its body, and before it a header where there are headers. Answers its length.

@@ -7,10 +7,10 @@ ghost use Rattle.std.specs.Prelude.{◌≡◌};
 ghost use Rattle.units.specs.Counts.{bytes_of_blocks};
 ghost use Rattle.fields.specs.Fields.{fields_of, header_words, header_blocks};
 
-use units::{Blocks, Words, blocks_to_bytes, byte_at, u16_at, u32_at, words_to_blocks};
+use units::{Blocks, Bytes, Words, byte_at, u16_at, u32_at, words_to_blocks};
 
 // The fields that are looked at, by the format's names.
-#[derive(Clone, Copy)]
+#[derive(Clone, Copy, Debug, PartialEq, Eq)]
 pub struct Fields {
     pub htc: u16,
     pub wtf: Words,
@@ -31,7 +31,7 @@ pub fn fields_of(file: &[u8]) -> Fields
 {
     Fields {
         htc: u16_at(file, 0),
-        wtf: Words(u16_at(file, 2) as usize),
+        wtf: Words(usize::from(u16_at(file, 2))),
         dtc: u16_at(file, 4),
         ppl: u32_at(file, 184),
         nol: u32_at(file, 188),
@@ -48,10 +48,11 @@ pub fn fields_of(file: &[u8]) -> Fields
 pub fn header_words(file: &[u8]) -> Words
     ensures { result.0 ≡ (header_words (fields_of file.now)).0 }
 {
-    Words((u16_at(file, 2) as usize) + 2)
+    Words(usize::from(u16_at(file, 2)) + 2)
 }
 
-// The whole blocks of a header.
+// The whole blocks of a header. WTF is of two bytes, so they fit their type.
+#[tactic(auto, unfolding(units::specs::LittleEndian::u16_at))]
 pub fn header_blocks(file: &[u8]) -> Blocks
     ensures { result.0 ≡ (header_blocks (fields_of file.now)).0 }
 {
@@ -62,5 +63,5 @@ pub fn header_blocks(file: &[u8]) -> Blocks
 pub fn data_start(file: &[u8]) -> usize
     ensures { result ≡ (bytes_of_blocks (header_blocks (fields_of file.now))).0 }
 {
-    blocks_to_bytes(header_blocks(file)).0
+    Bytes::from(header_blocks(file)).0
 }

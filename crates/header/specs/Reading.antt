@@ -1,8 +1,9 @@
 -- What reading a header answers, as the paper's numbers.
-use Rattle.std.specs.Prelude.{ℕ, cond, List, eqb}
+use Rattle.std.specs.Prelude.{ℕ, cond, List, eqb, Result, Ok, Err}
+use Rattle.refusals.specs.declared.Rejection.{Rejection}
+use Rattle.refusals.specs.Rejections.{number_of}
 use Rattle.fields.specs.declared.Fields.{Fields}
-use Rattle.header.specs.declared.reading.HeaderAnswer.{HeaderAnswer}
-use Rattle.header.specs.declared.reading.HeaderAnswer.TheVariants.{Rejected, Accepted}
+use Rattle.header.specs.declared.reading.Header.{Header}
 use Rattle.fields.specs.Fields.{fields_of, header_blocks}
 use Rattle.header.specs.Resolution.{resolution, resolution_numbers, resolution_of, ResolutionNumbers}
 use Rattle.header.specs.Rejections.{rejection_to22}
@@ -56,9 +57,9 @@ abbrev pub header_reading : List ℕ → HeaderNumbers
 header_reading f = cond (eqb (rejection_to22 f) 0) (field_numbers (fields_of f)) (rejected_numbers (rejection_to22 f))
 
 -- the paper's numbers of an answer
-abbrev pub header_numbers : HeaderAnswer → HeaderNumbers
-header_numbers (Rejected n) = rejected_numbers n
-header_numbers (Accepted h) =
+abbrev pub header_numbers : Result Header Rejection → HeaderNumbers
+header_numbers (Err r) = rejected_numbers (number_of r)
+header_numbers (Ok h) =
     record {
       number = 0;
       data_type = h.data_type;

@@ -6,5 +6,5 @@
 mod reading;
 mod rejection;
 
-pub use reading::{Header, HeaderAnswer, Resolution, read_header};
+pub use reading::{Header, Resolution, read_header};
 pub use rejection::{entry_start, rejection_to_22, slot_at};

@@ -1,21 +1,22 @@
-// The answer of reading a header.
+// What reading a header answers.
 ghost use Rattle.std.specs.Prelude.{◌≡◌};
 ghost use Rattle.fields.specs.Fields.{header_blocks};
 ghost use Rattle.header.specs.Resolution.{resolution_numbers, resolution_of};
-ghost use Rattle.header.specs.Reading.{header_numbers, header_reading, field_numbers};
+ghost use Rattle.header.specs.Reading.{header_numbers, header_reading};
 
 use crate::rejection::rejection_to_22;
 use fields::{Fields, fields_of, header_blocks};
+use refusals::Rejection;
 use units::Blocks;
 
-#[derive(Clone, Copy)]
+#[derive(Clone, Copy, Debug, PartialEq, Eq)]
 pub enum Resolution {
     Unspecified,
     Microns(u16),
     DotsPerInch(u16),
 }
 
-#[derive(Clone, Copy)]
+#[derive(Clone, Copy, Debug, PartialEq, Eq)]
 pub struct Header {
     pub data_type: u16,
     pub blocks: Blocks,
@@ -28,22 +29,23 @@ pub struct Header {
     pub cte: u32,
 }
 
-// A rejection has its number in the table of rejections.
-#[derive(Clone, Copy)]
-pub enum HeaderAnswer {
-    Rejected(u16),
-    Accepted(Header),
-}
-
 // Reads the header of a file, or says why the file is rejected.
-pub fn read_header(file: &[u8]) -> HeaderAnswer
+pub fn read_header(file: &[u8]) -> Result<Header, Rejection>
     ensures { header_numbers result ≡ header_reading file.now }
 {
-    let number = rejection_to_22(file);
-    if number != 0 {
-        return HeaderAnswer::Rejected(number);
-    }
-    accepted(fields_of(file), header_blocks(file))
+    rejection_to_22(file)?;
+    let h = fields_of(file);
+    Ok(Header {
+        data_type: h.dtc,
+        blocks: header_blocks(file),
+        ppl: h.ppl,
+        nol: h.nol,
+        resolution: resolution_of(h.drs),
+        slo: h.slo,
+        scn: h.scn,
+        ctv: h.ctv,
+        cte: h.cte,
+    })
 }
 
 // What a stored DRS says. It is a signed number; its size as dots per inch may be 32,768.
@@ -56,23 +58,5 @@ fn resolution_of(drs: u16) -> Resolution
     if drs < 32768 {
         return Resolution::Microns(drs);
     }
-    Resolution::DotsPerInch((65536 - (drs as u32)) as u16)
-}
-
-// The answer of a file that is not rejected, with the blocks of its header.
-fn accepted(h: Fields, blocks: Blocks) -> HeaderAnswer
-    requires { blocks.0 ≡ (header_blocks h).0 }
-    ensures { header_numbers result ≡ field_numbers h }
-{
-    HeaderAnswer::Accepted(Header {
-        data_type: h.dtc,
-        blocks,
-        ppl: h.ppl,
-        nol: h.nol,
-        resolution: resolution_of(h.drs),
-        slo: h.slo,
-        scn: h.scn,
-        ctv: h.ctv,
-        cte: h.cte,
-    })
+    Resolution::DotsPerInch((65536 - u32::from(drs)) as u16)
 }

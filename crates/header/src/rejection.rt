@@ -1,103 +1,100 @@
-// The rejections of a file, in the order of the table. Each function answers the number of the first rule of its part of
-// the table that holds, or 0.
+// The rejections of a file, in the order of the table. Each function answers the rejection of the first rule of its part of
+// the table that holds.
 ghost use Rattle.std.specs.Prelude.{◌≡◌};
+ghost use Rattle.refusals.specs.Rejections.{rejected_by};
 ghost use Rattle.units.specs.Rules.{first};
 ghost use Rattle.fields.specs.Fields.{header_words, header_blocks};
 ghost use Rattle.header.specs.Rejections.{frame_rules, color_table_rules, rejection_to22, shares_slot, slot_occurs, entry_start, slot_at};
 
 use fields::{Fields, fields_of, header_blocks, header_words};
 use limits::limit_rejection;
+use refusals::Rejection;
 use units::{Blocks, Bytes, Words, blocks_to_bytes, blocks_to_words, u16_at, words_to_bytes};
 
-// The number up to 22 that a file is rejected with, or 0.
-pub fn rejection_to_22(file: &[u8]) -> u16
-    ensures { result ≡ rejection_to22 file.now }
+// The rejection up to 22 of a file.
+pub fn rejection_to_22(file: &[u8]) -> Result<(), Rejection>
+    ensures { rejected_by result ≡ rejection_to22 file.now }
 {
     let h = fields_of(file);
     let blocks = header_blocks(file);
-    let frame = frame_rejection(Bytes(file.len()), h, header_words(file), blocks);
-    if frame != 0 {
-        return frame;
-    }
-    let limit = limit_rejection(h.dtc as u32, h.slo as u32, h.scn as u32, h.ppl, h.nol);
-    if limit != 0 {
-        return limit;
-    }
+    frame_rejection(Bytes(file.len()), h, header_words(file), blocks)?;
+    // Casts and no `From`, since each part of the table is proved of the fields themselves.
+    limit_rejection(h.dtc as u32, h.slo as u32, h.scn as u32, h.ppl, h.nol)?;
     table_rejection(file, h, blocks)
 }
 
 // 10 to 15: the file's length, the header's marks and its length.
-fn frame_rejection(size: Bytes, h: Fields, words: Words, blocks: Blocks) -> u16
+fn frame_rejection(size: Bytes, h: Fields, words: Words, blocks: Blocks) -> Result<(), Rejection>
     requires words_value { words.0 ≡ (header_words h).0 }
     requires blocks_value { blocks.0 ≡ (header_blocks h).0 }
-    ensures { result ≡ first (frame_rules size h) }
+    ensures { rejected_by result ≡ first (frame_rules size h) }
 {
     let whole = blocks_to_words(blocks);
     let bytes = blocks_to_bytes(blocks);
     if 2147483647 < size.0 {
-        return 10;
+        return Err(Rejection::TooLong);
     }
     if size.0 < 1024 {
-        return 11;
+        return Err(Rejection::TooShort);
     }
     if h.htc != 0x0908 {
-        return 12;
+        return Err(Rejection::Mark);
     }
     if whole.0 != words.0 {
-        return 13;
+        return Err(Rejection::HeaderLength);
     }
     if blocks.0 < 2 {
-        return 13;
+        return Err(Rejection::HeaderLength);
     }
     if size.0 < bytes.0 {
-        return 14;
+        return Err(Rejection::HeaderPastEnd);
     }
     if h.ver != 3 {
-        return 15;
+        return Err(Rejection::Version);
     }
-    0
+    Ok(())
 }
 
 // 21 and 22: a color table of a known kind, within the header, whose slots are distinct.
-fn table_rejection(file: &[u8], h: Fields, blocks: Blocks) -> u16
+fn table_rejection(file: &[u8], h: Fields, blocks: Blocks) -> Result<(), Rejection>
     requires { blocks.0 ≡ (header_blocks h).0 }
-    ensures { result ≡ first (color_table_rules file.now h) }
+    ensures { rejected_by result ≡ first (color_table_rules file.now h) }
 {
     if 2 < h.ctv {
-        return 21;
+        return Err(Rejection::ColorTable);
     }
     if h.ctv == 0 {
-        return 0;
+        return Ok(());
     }
     if h.ctv == 1 {
         if blocks.0 < 3 {
-            return 21;
+            return Err(Rejection::ColorTable);
         }
-        return 0;
+        return Ok(());
     }
     if h.cte == 0 {
-        return 21;
+        return Err(Rejection::ColorTable);
     }
     if 256 < h.cte {
-        return 21;
+        return Err(Rejection::ColorTable);
     }
     let entries = h.cte as u16;
     let bytes = blocks_to_bytes(blocks);
     let end = entry_start(entries);
     if bytes.0 < end {
-        return 21;
+        return Err(Rejection::ColorTable);
     }
     if shares_slot(file, entries) {
-        return 22;
+        return Err(Rejection::SharedSlot);
     }
-    0
+    Ok(())
 }
 
 // The byte where the Environ-V entry i, from 0, starts. Each entry is four words.
 pub fn entry_start(i: u16) -> usize
     ensures { result ≡ entry_start i }
 {
-    768 + words_to_bytes(Words(4 * (i as usize))).0
+    768 + words_to_bytes(Words(4 * usize::from(i))).0
 }
 
 pub fn slot_at(file: &[u8], i: u16) -> u16
@@ -110,26 +107,12 @@ pub fn slot_at(file: &[u8], i: u16) -> u16
 fn shares_slot(file: &[u8], cte: u16) -> bool
     ensures { result ≡ shares_slot file.now cte }
 {
-    let mut i: u16 = 0;
-    while i < cte {
-        if slot_occurs(file, slot_at(file, i), i + 1, cte) {
-            return true;
-        }
-        i += 1;
-    }
-    false
+    (0..cte).any(|i| slot_occurs(file, slot_at(file, i), i + 1, cte))
 }
 
 // Whether an entry from the one numbered `from` on has this slot.
 fn slot_occurs(file: &[u8], slot: u16, from: u16, cte: u16) -> bool
     ensures { result ≡ slot_occurs file.now slot from cte }
 {
-    let mut i = from;
-    while i < cte {
-        if slot_at(file, i) == slot {
-            return true;
-        }
-        i += 1;
-    }
-    false
+    (from..cte).any(|i| slot_at(file, i) == slot)
 }

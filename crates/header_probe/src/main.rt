@@ -2,10 +2,13 @@
 // number that it is rejected with. An input of more than 140,000 bytes is `too long`.
 #![tactic(auto)]
 
-use color::{ColorAnswer, Rgb};
-use header::{Header, HeaderAnswer, Resolution};
+use color::Rgb;
+use header::{Header, Resolution};
 use std::io;
-use text::{put, put_decimal, put_field, read_full};
+use text::{Text, read_full};
+
+// All that is printed: it has room for more.
+type Page = Text<16384>;
 
 fn main(rt: HostRuntime) -> io::Result<()> {
     let mut space = [0u8; 140001];
@@ -17,85 +20,57 @@ fn main(rt: HostRuntime) -> io::Result<()> {
 }
 
 fn show(rt: &impl Print, file: &[u8]) -> io::Result<()> {
-    let mut space = [0u8; 16384];
+    let mut page = Page::new();
     match header::read_header(file) {
-        HeaderAnswer::Rejected(number) => {
-            let end = put_rejection(&mut space, 0, number);
-            print(rt, &space, end)
-        }
-        HeaderAnswer::Accepted(h) => {
-            let at = put_header(&mut space, h);
-            let end = put_colors(&mut space, at, file);
-            print(rt, &space, end)
+        Err(rejection) => page.put_rejection(rejection),
+        Ok(h) => {
+            put_header(&mut page, h);
+            put_colors(&mut page, file);
         }
     }
+    rt.write_all(page.as_bytes())
 }
 
-// Writes the first `end` bytes.
-fn print(rt: &impl Print, text: &[u8], end: usize) -> io::Result<()> {
-    if end <= text.len() {
-        return rt.write_all(&text[..end]);
-    }
-    Ok(())
+fn put_header(page: &mut Page, h: Header) {
+    page.put_field(b"type ", u64::from(h.data_type));
+    page.put_field(b" blocks ", u64::from(h.blocks.0));
+    page.put_field(b" pixels ", u64::from(h.ppl));
+    page.put_field(b" lines ", u64::from(h.nol));
+    put_resolution(page, h.resolution);
+    page.put_field(b" slo ", u64::from(h.slo));
+    page.put_field(b" scn ", u64::from(h.scn));
+    page.put_field(b" ctv ", u64::from(h.ctv));
+    page.put_field(b" cte ", u64::from(h.cte));
+    page.put(b"\n");
 }
 
-fn put_rejection(out: &mut [u8], at: usize, number: u16) -> usize {
-    let end = put_field(out, at, b"refused ", number as u64);
-    put(out, end, b"\n")
-}
-
-fn put_header(out: &mut [u8], h: Header) -> usize {
-    let size = put_size(out, h);
-    let resolution = h.resolution;
-    let mut at = put_resolution(out, size, resolution);
-    at = put_codes(out, at, h);
-    put(out, at, b"\n")
-}
-
-fn put_size(out: &mut [u8], h: Header) -> usize {
-    let mut at = put_field(out, 0, b"type ", h.data_type as u64);
-    at = put_field(out, at, b" blocks ", h.blocks.0 as u64);
-    at = put_field(out, at, b" pixels ", h.ppl as u64);
-    put_field(out, at, b" lines ", h.nol as u64)
-}
-
-fn put_codes(out: &mut [u8], from: usize, h: Header) -> usize {
-    let mut at = put_field(out, from, b" slo ", h.slo as u64);
-    at = put_field(out, at, b" scn ", h.scn as u64);
-    at = put_field(out, at, b" ctv ", h.ctv as u64);
-    put_field(out, at, b" cte ", h.cte as u64)
-}
-
-fn put_resolution(out: &mut [u8], at: usize, resolution: Resolution) -> usize {
+fn put_resolution(page: &mut Page, resolution: Resolution) {
     match resolution {
-        Resolution::Unspecified => put(out, at, b" resolution 0 0"),
-        Resolution::Microns(n) => put_field(out, at, b" resolution 1 ", n as u64),
-        Resolution::DotsPerInch(n) => put_field(out, at, b" resolution 2 ", n as u64),
+        Resolution::Unspecified => page.put(b" resolution 0 0"),
+        Resolution::Microns(n) => page.put_field(b" resolution 1 ", u64::from(n)),
+        Resolution::DotsPerInch(n) => page.put_field(b" resolution 2 ", u64::from(n)),
     }
 }
 
-fn put_colors(out: &mut [u8], from: usize, file: &[u8]) -> usize {
-    let mut at = from;
-    let mut v: u32 = 0;
-    while v <= 300 {
-        at = put_color(out, at, file, v);
-        v += 1;
+fn put_colors(page: &mut Page, file: &[u8]) {
+    for value in 0..=300 {
+        put_color(page, file, value);
     }
-    put_color(out, at, file, 65535)
+    put_color(page, file, 65535);
 }
 
-fn put_color(out: &mut [u8], from: usize, file: &[u8], value: u32) -> usize {
-    let at = put_decimal(out, from, value as u64);
-    let next = put(out, at, b": ");
+fn put_color(page: &mut Page, file: &[u8], value: u32) {
+    page.put_decimal(u64::from(value));
+    page.put(b": ");
     match color::color_of(file, value) {
-        ColorAnswer::Rejected(number) => put_rejection(out, next, number),
-        ColorAnswer::Found(c) => put_rgb(out, next, c),
+        Err(rejection) => page.put_rejection(rejection),
+        Ok(c) => put_rgb(page, c),
     }
 }
 
-fn put_rgb(out: &mut [u8], from: usize, c: Rgb) -> usize {
-    let mut at = put_decimal(out, from, c.red as u64);
-    at = put_field(out, at, b" ", c.green as u64);
-    at = put_field(out, at, b" ", c.blue as u64);
-    put(out, at, b"\n")
+fn put_rgb(page: &mut Page, c: Rgb) {
+    page.put_decimal(u64::from(c.red));
+    page.put_field(b" ", u64::from(c.green));
+    page.put_field(b" ", u64::from(c.blue));
+    page.put(b"\n");
 }

@@ -29,10 +29,10 @@ sheet_of f =
       nol = (fields_of f).nol;
     }
 
--- the raster that the readers are handed as a layout and its bytes
-abbrev pub raster_of : RasterLayout → List ℕ → Raster
-raster_of l bytes =
-    record { bytes = bytes; data_start = l.start; scn = l.scn; data_type = l.dtc; ppl = l.ppl; nol = l.nol }
+-- the raster that the readers are handed
+abbrev pub raster_of : RasterLayout → Raster
+raster_of l =
+    record { bytes = l.bytes.now; data_start = l.start; scn = l.scn; data_type = l.dtc; ppl = l.ppl; nol = l.nol }
 
 -- the bytes from byte s on, and the step of a scanline that starts there
 abbrev pub from : Raster → ℕ → List ℕ

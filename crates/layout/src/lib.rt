@@ -3,15 +3,18 @@
 // Definitions and laws, in specs/, that the crates which read a raster cite; and what they hand on of one.
 #![tactic(auto)]
 
-ghost use Rattle.std.specs.Prelude.{◌≡◌};
+ghost use Rattle.std.specs.Prelude.{◌≡◌, cond};
+ghost use Rattle.refusals.specs.Faults.{status_of};
 ghost use Rattle.layout.specs.Chain.{sheet_of, raster_of, one_if_good};
 ghost use Rattle.layout.specs.Reading.{answer_of};
 
 use fields::{data_start, fields_of};
+use refusals::Fault;
 
-// Where a raster's data start, SCN, the data type, pixels per line and the number of lines. The bytes are lent beside it.
+// A raster: the bytes that its scanlines may look at, where its data start, SCN, the data type, pixels per line and the number of lines.
 #[derive(Clone, Copy)]
-pub struct RasterLayout {
+pub struct RasterLayout<'a> {
+    pub bytes: &'a [u8],
     pub start: usize,
     pub scn: u8,
     pub dtc: u16,
@@ -20,11 +23,12 @@ pub struct RasterLayout {
 }
 
 // The raster of a whole file, by its header.
-pub fn sheet_layout(file: &[u8]) -> RasterLayout
-    ensures { raster_of result file.now ≡ sheet_of file.now }
+pub fn sheet_layout(file: &[u8]) -> RasterLayout<'_>
+    ensures { raster_of result ≡ sheet_of file.now }
 {
     let h = fields_of(file);
     RasterLayout {
+        bytes: file,
         start: data_start(file),
         scn: h.scn,
         dtc: h.dtc,
@@ -33,16 +37,16 @@ pub fn sheet_layout(file: &[u8]) -> RasterLayout
     }
 }
 
-// 0 where all of them are good, else 1.
-pub fn answer_of(good: u32, nol: u32) -> u32
-    ensures { result ≡ answer_of good nol }
+// Whether all of them are good.
+pub fn is_whole(good: u32, nol: u32) -> bool
+    ensures { cond result 0 1 ≡ answer_of good nol }
 {
-    if good == nol { 0 } else { 1 }
+    good == nol
 }
 
-// What a scanline with this status counts among the good ones.
-pub fn one_if_good(status: u8) -> u32
-    ensures { result ≡ one_if_good status }
+// What a scanline counts among the good ones.
+pub fn one_if_good(read: Result<(), Fault>) -> u32
+    ensures { result ≡ one_if_good (status_of read) }
 {
-    if status == 0 { 1 } else { 0 }
+    u32::from(read == Ok(()))
 }

@@ -2,9 +2,13 @@
 // input of more than 32,768 bytes is `too long`.
 #![tactic(auto)]
 
-use decode_raster::RasterAnswer;
+use decode_raster::{Reading, read_raster};
+use fields::Fields;
 use std::io;
-use text::{put, put_decimal, put_field, read_full};
+use text::{Text, read_full};
+
+// The whole listing: it has room for more than 8,192 pixels in 256 rows take.
+type Page = Text<65536>;
 
 fn main(rt: HostRuntime) -> io::Result<()> {
     let mut space = [0u8; 32769];
@@ -19,108 +23,48 @@ fn main(rt: HostRuntime) -> io::Result<()> {
 fn list(rt: &impl Print, file: &[u8]) -> io::Result<()> {
     let mut pixels = [65535u16; 8192];
     let mut marks = [255u8; 256];
-    let r = decode_raster::read_raster(file, &mut pixels, &mut marks);
-    show(rt, file, r, &pixels, &marks)
-}
-
-// Numbers from 10 on are rejections.
-fn show(
-    rt: &impl Print,
-    file: &[u8],
-    r: RasterAnswer,
-    pixels: &[u16],
-    marks: &[u8],
-) -> io::Result<()> {
-    let mut out = [0u8; 65536];
-    if 10 <= r.answer {
-        let end = put_rejection(&mut out, r.answer);
-        return print(rt, &out, end);
-    }
-    let h = fields::fields_of(file);
-    let size = put_size(&mut out, h.dtc, h.ppl, h.nol);
-    let head = put_answer(&mut out, size, r);
-    let end = put_rows(
-        &mut out,
-        head,
-        h.ppl as usize,
-        h.nol as usize,
-        pixels,
-        marks,
-    );
-    print(rt, &out, end)
-}
-
-// Writes the first `end` bytes.
-fn print(rt: &impl Print, text: &[u8], end: usize) -> io::Result<()> {
-    if end <= text.len() {
-        return rt.write_all(&text[..end]);
-    }
-    Ok(())
-}
-
-fn put_rejection(out: &mut [u8], number: u32) -> usize {
-    let end = put_field(out, 0, b"refused ", number as u64);
-    put(out, end, b"\n")
-}
-
-fn put_size(out: &mut [u8], dtc: u16, ppl: u32, nol: u32) -> usize {
-    let mut at = put_field(out, 0, b"type ", dtc as u64);
-    at = put_field(out, at, b" pixels ", ppl as u64);
-    put_field(out, at, b" lines ", nol as u64)
-}
-
-fn put_answer(out: &mut [u8], from: usize, r: RasterAnswer) -> usize {
-    let mut at = put_field(out, from, b" answer ", r.answer as u64);
-    at = put_field(out, at, b" good ", r.good as u64);
-    at = put_field(out, at, b" end ", r.end as u64);
-    put(out, at, b"\n")
-}
-
-// Puts n rows of p pixels, as far as the buffers have them.
-fn put_rows(
-    out: &mut [u8],
-    start: usize,
-    p: usize,
-    n: usize,
-    pixels: &[u16],
-    marks: &[u8],
-) -> usize {
-    let mut at = start;
-    let mut from = 0;
-    let mut k = 0;
-    while k < n {
-        if marks.len() <= k {
-            return at;
+    let reading = read_raster(file, &mut pixels, &mut marks);
+    let mut page = Page::new();
+    match reading {
+        Err(rejection) => page.put_rejection(rejection),
+        Ok(reading) => {
+            let h = fields::fields_of(file);
+            put_head(&mut page, h, reading);
+            put_rows(&mut page, h, &pixels, &marks);
         }
-        if pixels.len() - from < p {
-            return at;
-        }
-        let to = from + p;
-        k += 1;
-        at = put_row(out, at, k, marks[k - 1], &pixels[from..to]);
-        from = to;
     }
-    at
+    rt.write_all(page.as_bytes())
 }
 
-fn put_row(out: &mut [u8], start: usize, line: usize, mark: u8, row: &[u16]) -> usize {
-    let mut at = put_decimal(out, start, line as u64);
-    at = put_field(out, at, b" ", mark as u64);
-    at = put(out, at, b":");
-    at = put_pixels(out, at, row);
-    put(out, at, b"\n")
+// The answer is 0 where every scanline is good, else 1.
+fn put_head(page: &mut Page, h: Fields, reading: Reading) {
+    page.put_field(b"type ", u64::from(h.dtc));
+    page.put_field(b" pixels ", u64::from(h.ppl));
+    page.put_field(b" lines ", u64::from(h.nol));
+    page.put_field(b" answer ", u64::from(!reading.whole));
+    page.put_field(b" good ", u64::from(reading.good));
+    page.put_field(b" end ", reading.end as u64);
+    page.put(b"\n");
 }
 
-fn put_pixels(out: &mut [u8], start: usize, row: &[u16]) -> usize {
-    let mut at = start;
-    let mut i = 0;
-    while i < row.len() {
-        at = put_pixel(out, at, row[i]);
-        i += 1;
+// Puts the rows, as far as the buffers have them.
+fn put_rows(page: &mut Page, h: Fields, pixels: &[u16], marks: &[u8]) {
+    let mut rest = pixels;
+    for (line, &mark) in (1..=h.nol).zip(marks) {
+        let Some((row, after)) = rest.split_at_checked(h.ppl as usize) else {
+            return;
+        };
+        put_row(page, line, mark, row);
+        rest = after;
     }
-    at
 }
 
-fn put_pixel(out: &mut [u8], at: usize, value: u16) -> usize {
-    put_field(out, at, b" ", value as u64)
+fn put_row(page: &mut Page, line: u32, mark: u8, row: &[u16]) {
+    page.put_decimal(u64::from(line));
+    page.put_field(b" ", u64::from(mark));
+    page.put(b":");
+    for &pixel in row {
+        page.put_field(b" ", u64::from(pixel));
+    }
+    page.put(b"\n");
 }

@@ -7,7 +7,7 @@ ghost use Rattle.numbering.specs.Numbering.{wanted_number, rollover_met};
 use units::u16_at;
 
 // The line number that a scanline must have, and what is known of the number in line 65,536.
-#[derive(Clone, Copy)]
+#[derive(Clone, Copy, Debug, PartialEq, Eq)]
 pub struct Numbered {
     pub number: u16,
     pub rollover: u16,
@@ -15,6 +15,7 @@ pub struct Numbered {
 
 // Numbers scanline k, counted from 0, which starts with `rest` and which the chain has come to. `known` is what was known before; where
 // this is line 65,536, its number is kept, so that nobody looks for it. Lines before that are one test and one sum.
+#[tactic(auto, using(crate::proofs::Laws::Numbering::line_steps))]
 pub fn number_line(known: u16, k: usize, rest: &[u8]) -> Numbered
     ensures number_value { result.number ≡ wanted_number result.rollover k }
     ensures rollover_value { result.rollover ≡ rollover_met known k rest.now }
@@ -31,6 +32,7 @@ pub fn number_line(known: u16, k: usize, rest: &[u8]) -> Numbered
 }
 
 // The number in line 65,536 where scanline k is that line, else what is known of it.
+#[tactic(auto, unfolding(crate::specs::Numbering::rollover_met))]
 fn rollover_met(known: u16, k: usize, rest: &[u8]) -> u16
     ensures { result ≡ rollover_met known k rest.now }
 {
@@ -41,6 +43,7 @@ fn rollover_met(known: u16, k: usize, rest: &[u8]) -> u16
 }
 
 // The line number that a scanline from line 65,536 on must have, where that line has the number `rollover`.
+#[tactic(auto, using(crate::proofs::Laws::Numbering::past_steps))]
 fn number_past(rollover: u16, k: usize) -> u16
     requires { 65535 ≤ k }
     ensures { result ≡ wanted_number rollover k }

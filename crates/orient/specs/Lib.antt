@@ -2,4 +2,3 @@ pub mod Corners
 pub mod Orientation
 pub mod Statement
 pub mod Turning
-pub mod Laws

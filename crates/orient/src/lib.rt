@@ -4,13 +4,14 @@
 // turning knows nothing of files: it takes the pixels of a reading, and its orientation.
 #![tactic(auto)]
 
-ghost use Rattle.std.specs.Prelude.{◌*◌, ◌≡◌, cond, length, ltb};
+ghost use Rattle.std.specs.Prelude.{◌≡◌, cond, length, ltb};
+ghost use Rattle.refusals.specs.Rejections.{number_of, rejected_by};
 ghost use Rattle.orient.specs.Orientation.{bit_set, width, height};
-ghost use Rattle.orient.specs.Turning.{turn_rejection, filled_after, upright_after, pixels_after};
-ghost use Rattle.orient.specs.Laws.Moving.{either_way};
+ghost use Rattle.orient.specs.Turning.{turn_rejection, upright_after, pixels_after};
 
-use limits::{earlier, nol_rejection, ppl_rejection, slo_rejection};
+use limits::{nol_rejection, ppl_rejection, slo_rejection};
 use moves::move_pixels;
+use refusals::Rejection;
 
 // The bits of the orientation (SLO): the first pixel is at the right, and at the bottom; lines are rows.
 const AT_RIGHT: u32 = 1;
@@ -19,24 +20,56 @@ const AT_BOTTOM: u32 = 2;
 
 const LINES_ARE_ROWS: u32 = 4;
 
+// Both ways take the orientation and the sides as three numbers, as the C interface does. Each moves the pixels itself: they differ in
+// the move of columns alone, and a switch between the two moves is no plainer.
+
 // Turns a sheet of nol lines of ppl pixels into the upright picture.
-pub fn turn(slo: u32, ppl: u32, nol: u32, pixels: &[u16], upright: &mut [u16]) -> u32
-    ensures value { result ≡ turn_rejection slo ppl nol (length pixels.now) (length upright.old) }
+pub fn turn(
+    slo: u32,
+    ppl: u32,
+    nol: u32,
+    pixels: &[u16],
+    upright: &mut [u16],
+) -> Result<(), Rejection>
+    ensures value { rejected_by result ≡ turn_rejection slo ppl nol (length pixels.now) (length upright.old) }
     ensures upright_after { upright.new ≡ upright_after slo ppl nol pixels.now upright.old }
 {
-    turn_either(false, slo, ppl, nol, pixels, upright)
+    turn_rejection(slo, ppl, nol, pixels.len(), upright.len())?;
+    let right = bit_set(AT_RIGHT, slo);
+    let bottom = bit_set(AT_BOTTOM, slo);
+    if bit_set(LINES_ARE_ROWS, slo) {
+        move_pixels(false, right, bottom, ppl, nol, pixels, upright);
+    } else {
+        move_pixels(true, right, bottom, nol, ppl, pixels, upright);
+    }
+    Ok(())
 }
 
-// Turns an upright picture back into the sheet of nol lines of ppl pixels.
-pub fn turn_back(slo: u32, ppl: u32, nol: u32, upright: &[u16], pixels: &mut [u16]) -> u32
-    ensures value { result ≡ turn_rejection slo ppl nol (length upright.now) (length pixels.old) }
+// Turns an upright picture back into the sheet of nol lines of ppl pixels. To columns the sides, and what they are mirrored by, are
+// exchanged.
+pub fn turn_back(
+    slo: u32,
+    ppl: u32,
+    nol: u32,
+    upright: &[u16],
+    pixels: &mut [u16],
+) -> Result<(), Rejection>
+    ensures value { rejected_by result ≡ turn_rejection slo ppl nol (length upright.now) (length pixels.old) }
     ensures pixels_after { pixels.new ≡ pixels_after slo ppl nol upright.now pixels.old }
 {
-    turn_either(true, slo, ppl, nol, upright, pixels)
+    turn_rejection(slo, ppl, nol, upright.len(), pixels.len())?;
+    let right = bit_set(AT_RIGHT, slo);
+    let bottom = bit_set(AT_BOTTOM, slo);
+    if bit_set(LINES_ARE_ROWS, slo) {
+        move_pixels(false, right, bottom, ppl, nol, upright, pixels);
+    } else {
+        move_pixels(true, bottom, right, ppl, nol, upright, pixels);
+    }
+    Ok(())
 }
 
 // The sides of the upright picture, in pixels.
-#[derive(Clone, Copy)]
+#[derive(Clone, Copy, Debug, PartialEq, Eq)]
 pub struct PictureSize {
     pub width: u32,
     pub height: u32,
@@ -59,53 +92,32 @@ pub fn picture_size(slo: u32, ppl: u32, nol: u32) -> PictureSize
     }
 }
 
-// Both ways. A picture that is turned back to columns has the sides, and what they are mirrored by, exchanged.
-fn turn_either(back: bool, slo: u32, ppl: u32, nol: u32, input: &[u16], output: &mut [u16]) -> u32
-    ensures value { result ≡ turn_rejection slo ppl nol (length input.now) (length output.old) }
-    ensures output_after { output.new ≡ filled_after result (either_way back slo ppl nol input.now) (nol * ppl) output.old }
+// The rejection of a call, where a buffer of `read` pixels is read and one of `filled` pixels is filled.
+#[tactic(auto, unfolding(crate::specs::Turning::turn_rejection))]
+fn turn_rejection(slo: u32, ppl: u32, nol: u32, read: usize, filled: usize) -> Result<(), Rejection>
+    ensures { rejected_by result ≡ turn_rejection slo ppl nol read filled }
 {
-    let number = turn_rejection(slo, ppl, nol, input.len(), output.len());
-    if number != 0 {
-        return number as u32;
-    }
-    let right = bit_set(AT_RIGHT, slo);
-    let bottom = bit_set(AT_BOTTOM, slo);
-    if bit_set(LINES_ARE_ROWS, slo) {
-        move_pixels(false, right, bottom, ppl, nol, input, output);
-        return 0;
-    }
-    if back {
-        move_pixels(true, bottom, right, ppl, nol, input, output);
-        return 0;
-    }
-    move_pixels(true, right, bottom, nol, ppl, input, output);
-    0
-}
-
-// The number a call is rejected with, where a buffer of `read` pixels is read and one of `filled` pixels is filled.
-fn turn_rejection(slo: u32, ppl: u32, nol: u32, read: usize, filled: usize) -> u16
-    ensures { result ≡ turn_rejection slo ppl nol read filled }
-{
-    let by_slo = slo_rejection(slo);
-    let by_ppl = ppl_rejection(ppl);
-    let by_nol = nol_rejection(nol);
+    slo_rejection(slo)?;
+    ppl_rejection(ppl)?;
+    nol_rejection(nol)?;
     let size = (nol as usize) * (ppl as usize);
-    let by_read = shorter(read, size, 23);
-    let by_filled = shorter(filled, size, 31);
-    earlier(
-        by_slo,
-        earlier(by_ppl, earlier(by_nol, earlier(by_read, by_filled))),
-    )
+    shorter(read, size, Rejection::PixelRoom)?;
+    shorter(filled, size, Rejection::UprightRoom)
 }
 
-// The number of the rejection where a buffer is shorter than the picture, or 0.
-fn shorter(length: usize, size: usize, number: u16) -> u16
-    ensures { result ≡ cond (ltb length size) number 0 }
+// The rejection where a buffer is shorter than the picture.
+fn shorter(length: usize, size: usize, rejection: Rejection) -> Result<(), Rejection>
+    ensures { rejected_by result ≡ cond (ltb length size) (number_of rejection) 0 }
 {
-    if length < size { number } else { 0 }
+    if length < size {
+        Err(rejection)
+    } else {
+        Ok(())
+    }
 }
 
 // Whether the bit of the orientation is set that the mask has.
+#[tactic(auto, unfolding(crate::specs::Orientation::bit_set))]
 fn bit_set(mask: u32, slo: u32) -> bool
     ensures { result ≡ bit_set mask slo }
 {

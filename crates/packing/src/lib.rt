@@ -34,27 +34,19 @@ fn four(row: &[u16], at: usize) -> u64
     requires { at + 4 ≤ length row.now }
     ensures { result ≡ four_levels row.now at }
 {
-    let left = wide(row[at]) + 65536 * wide(row[at + 1]);
-    let right = wide(row[at + 2]) + 65536 * wide(row[at + 3]);
+    let left = u64::from(row[at]) + 65536 * u64::from(row[at + 1]);
+    let right = u64::from(row[at + 2]) + 65536 * u64::from(row[at + 3]);
     (left + 4294967296 * right) & 0x0001000100010001
 }
 
-fn wide(x: u16) -> u64
-    ensures value { result ≡ x }
-    ensures upper_bound { result < 65536 }
-{
-    x as u64
-}
-
 // The word of a row that may have fewer pixels, one at a time.
+#[tactic(auto, using(crate::proofs::Laws::Lanes::first_pixels), unfolding(crate::specs::Packing::number))]
 fn short_word(row: &[u16]) -> u16
     ensures { result ≡ number 16 row.now }
 {
     let mut w: u16 = 0;
-    let mut j = 0;
-    while j < 16 {
+    for j in 0..16 {
         w = w + w + level_at(row, j);
-        j += 1;
     }
     w
 }

@@ -8,16 +8,17 @@ ghost use Rattle.encode_raster.specs.Answer.{picture};
 ghost use Rattle.encode_raster.specs.Writing.{writer_rejection};
 ghost use Rattle.round_trip.specs.Call.{BothCalls, GivenBack};
 
-use decode_raster::{RasterAnswer, read_raster, unread};
-use encode_answer::WriteAnswer;
+use decode_raster::{Reading, read_raster};
 use encode_raster::write_raster;
+use refusals::Rejection;
+use units::Bytes;
 
 // What the writer answered, and the reader. Where the writer rejected the picture nothing was read, and the reader's answer is the
-// writer's number, so that it is not taken for a reading.
-#[derive(Clone, Copy)]
+// writer's rejection, so that it is not taken for a reading.
+#[derive(Clone, Copy, Debug, PartialEq, Eq)]
 pub struct RoundTrip {
-    pub written: WriteAnswer,
-    pub read: RasterAnswer,
+    pub written: Result<Bytes, Rejection>,
+    pub read: Result<Reading, Rejection>,
 }
 
 // Writes a picture to the output and reads what was written into `back` and `marks`. Where the writer does not reject it
@@ -38,12 +39,14 @@ pub fn write_and_read(
     ensures calls { BothCalls (picture dtc ppl nol slo scn drs table.now pixels.now) out.old back.old marks.old result out.new back.new marks.new }
     ensures read_back { writer_rejection (picture dtc ppl nol slo scn drs table.now pixels.now) (length out.old) ≡ 0 → nol * ppl ≤ length back.old → nol ≤ length marks.old → GivenBack (picture dtc ppl nol slo scn drs table.now pixels.now) back.old marks.old result out.new back.new marks.new }
 {
-    let written = write_raster(dtc, ppl, nol, slo, scn, drs, table, pixels, out);
-    if written.number != 0 {
-        let read = unread(written.number);
-        return RoundTrip { written, read };
+    match write_raster(dtc, ppl, nol, slo, scn, drs, table, pixels, out) {
+        Ok(size) => RoundTrip {
+            written: Ok(size),
+            read: read_raster(&out[..size.0], back, marks),
+        },
+        Err(rejection) => RoundTrip {
+            written: Err(rejection),
+            read: Err(rejection),
+        },
     }
-    let size = written.size.0;
-    let read = read_raster(&out[..size], back, marks);
-    RoundTrip { written, read }
 }

@@ -1,9 +1,9 @@
 -- What scanning a scanline answers, and where its body and its body's first pixel are.
 use Rattle.std.specs.Prelude.{ℕ, ◌≡◌, cond, List, eqb}
+use Rattle.codec.specs.Extent.{Extent}
 use Rattle.layout.specs.Scanline.{Reading, Step, head_of, pixel_offset}
-use Rattle.scan_scanline.specs.declared.Scanline.{Scanline}
 
-pub record IsScan (s : Step) (x : Reading) (r : Scanline) : Type 0 where
+pub record IsScan (s : Step) (x : Reading) (r : Extent) : Type 0 where
   pub status : r.status ≡ x.status
   pub lost : r.lost ≡ s.lost
   pub used : r.used.0 ≡ s.used.0

@@ -3,33 +3,35 @@
 #![tactic(auto)]
 
 mod headed;
-mod open;
 mod regular;
 
 ghost use Rattle.std.specs.Prelude.{◌≡◌};
+ghost use Rattle.codec.specs.Extent.{extent_of};
 ghost use Rattle.layout.specs.Scanline.{step_of, reading_of};
 ghost use Rattle.scan_scanline.specs.Answer.{IsScan, body_start, first_column};
 
+pub use codec::Scanline;
+use decode_body::body_extent;
+use refusals::Fault;
 pub use regular::{is_regular, regular_size};
-use units::Bytes;
-
-// The status of a scanline, whether the ones after it are lost with it, and how many bytes on the next one starts.
-#[derive(Clone, Copy)]
-pub struct Scanline {
-    pub status: u8,
-    pub lost: bool,
-    pub used: Bytes,
-}
 
 // Scans a scanline of p pixels. `scn` and `dtc` are the raster's SCN and data type, and `number` the line number that its header
-// must have.
-pub fn scan_scanline(scn: u8, dtc: u16, number: u16, p: usize, rest: &[u8]) -> Scanline
-    ensures { IsScan (step_of scn dtc p rest.now) (reading_of scn dtc p number rest.now) result }
+// must have. The two stand apart here and above: each step that follows goes by one of them alone, so that a struct of both would be
+// taken apart again at once.
+pub fn scan_scanline(
+    scn: u8,
+    dtc: u16,
+    number: u16,
+    p: usize,
+    rest: &[u8],
+) -> Result<Scanline, Fault>
+    ensures { IsScan (step_of scn dtc p rest.now) (reading_of scn dtc p number rest.now) (extent_of result) }
 {
     if scn == 1 {
-        return headed::scan_headed(dtc, number, p, rest);
+        headed::scan_headed(dtc, number, p, rest)
+    } else {
+        body_extent(dtc, rest, p)
     }
-    open::scan_open(dtc, p, rest)
 }
 
 // Where the body of a scanline starts: after the header, where there is one.

@@ -18,23 +18,14 @@ pub fn regular_size(scn: u8, p: u32) -> Bytes
 }
 
 // Whether the bytes that are left start with one of this size.
+#[tactic(auto, unfolding(crate::specs::Regular::is_regular))]
 pub fn is_regular(scn: u8, number: u16, size: Bytes, rest: &[u8]) -> bool
     ensures { result ≡ is_regular scn number size.0 rest.now }
 {
-    if rest.len() < size.0 {
-        return false;
-    }
-    if scn != 1 {
-        return true;
-    }
-    if byte_at(rest, 1) != 0x59 {
-        return false;
-    }
-    if 4 + words_to_bytes(Words(u16_at(rest, 2) as usize)).0 != size.0 {
-        return false;
-    }
-    if u16_at(rest, 4) != number {
-        return false;
-    }
-    u16_at(rest, 6) == 0
+    rest.len() >= size.0
+        && (scn != 1
+            || byte_at(rest, 1) == 0x59
+                && 4 + words_to_bytes(Words(u16_at(rest, 2) as usize)).0 == size.0
+                && u16_at(rest, 4) == number
+                && u16_at(rest, 6) == 0)
 }

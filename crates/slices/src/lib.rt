@@ -1,29 +1,27 @@
 // Fills and copies of slices, one small loop each, so that the compiler can store many places a turn.
 //
-// A copy goes as far as both slices do: what lies behind it in the buffer stays.
+// A copy goes as far as both slices do: what lies behind it in the buffer stays. Loops go by index, since a proof does not know what a
+// `zip` over `iter_mut` leaves.
 #![tactic(auto)]
 
-ghost use Rattle.std.specs.Prelude.{◌≡◌, ◌&&◌, ◌+◌, min, max, length, replicate, leb};
+ghost use Rattle.std.specs.Prelude.{◌≡◌, ◌+◌, min, max, length, replicate};
 ghost use Rattle.std.proofs.lemmas.List.Edits.{sets};
 ghost use Rattle.units.specs.Counts.{word_bytes};
 ghost use Rattle.units.specs.LittleEndian.{low_bytes};
 ghost use Rattle.units.specs.Over.{over, zeros};
 ghost use Rattle.units.specs.Words.{words_to_bytes};
 
-use units::{Words, fill_words, lesser, put_long, words_to_bytes};
+use units::{Words, fill_words, put_long, words_to_bytes};
 
 // One value in every place of a row of pixels.
 pub fn fill(row: &mut [u16], v: u16)
     ensures { row.new ≡ replicate (length row.old) v }
 {
-    let mut i = 0;
-    while i < row.len() {
-        row[i] = v;
-        i += 1;
-    }
+    row.fill(v);
 }
 
 // A run of one value in a row of pixels: n places from `at` on, as far as the row goes. Answers the place after it.
+#[tactic(auto, using(units::proofs::Laws::Over::sets_past))]
 pub fn put_run(row: &mut [u16], at: usize, n: usize, v: u16) -> usize
     ensures value { result ≡ min (at + n) (length row.old) }
     ensures row_after { row.new ≡ sets row.old at (replicate n v) }
@@ -31,13 +29,14 @@ pub fn put_run(row: &mut [u16], at: usize, n: usize, v: u16) -> usize
     if row.len() <= at {
         return row.len();
     }
-    let end = at + lesser(n, row.len() - at);
+    let end = at + (row.len() - at).min(n);
     fill(&mut row[at..end], v);
     end
 }
 
 // The same where each pixel is stored as two bytes, low byte first: `at` and the answer are places of bytes. At least eight pixels are
 // stored, as far as the row goes, so that a short run, of whatever length, is one store: the next run goes over what it has too much.
+#[tactic(auto, using(units::proofs::Laws::Over::sets_past))]
 pub fn put_run_bytes(row: &mut [u8], at: usize, n: usize, v: u16) -> usize
     ensures value { result ≡ min (at + word_bytes n) (length row.old) }
     ensures row_after { row.new ≡ sets row.old at (words_to_bytes (replicate (max n 8) v)) }
@@ -46,30 +45,14 @@ pub fn put_run_bytes(row: &mut [u8], at: usize, n: usize, v: u16) -> usize
         return row.len();
     }
     let room = row.len() - at;
-    if is_short(n, room) {
+    if n <= 8 && 16 <= room {
         let eight = at + 16;
         fill_eight(&mut row[at..eight], v);
         return at + words_to_bytes(Words(n)).0;
     }
-    let end = at + lesser(words_to_bytes(Words(at_least_eight(n))).0, room);
+    let end = at + words_to_bytes(Words(n.max(8))).0.min(room);
     fill_pixels(&mut row[at..end], v);
-    at + lesser(words_to_bytes(Words(n)).0, room)
-}
-
-fn at_least_eight(n: usize) -> usize
-    ensures { result ≡ max n 8 }
-{
-    if n < 8 { 8 } else { n }
-}
-
-// Whether a run of n pixels has no more than eight, and these have room.
-fn is_short(n: usize, room: usize) -> bool
-    ensures { result ≡ (leb n 8 && leb 16 room) }
-{
-    if 8 < n {
-        return false;
-    }
-    16 <= room
+    at + words_to_bytes(Words(n)).0.min(room)
 }
 
 // One value in eight pixels: four of them are one number of 64 bits, and two such numbers are stored.
@@ -77,7 +60,7 @@ fn fill_eight(out: &mut [u8], v: u16)
     requires { length out.old ≡ 16 }
     ensures { out.new ≡ words_to_bytes (replicate 8 v) }
 {
-    let four = (v as u64) * 0x0001000100010001;
+    let four = u64::from(v) * 0x0001000100010001;
     let low = (four % 4294967296) as u32;
     let high = (four / 4294967296) as u32;
     put_long(out, 0, low);
@@ -101,56 +84,43 @@ fn fill_pixels(row: &mut [u8], v: u16)
 pub fn clear(out: &mut [u8])
     ensures { out.new ≡ zeros (length out.old) }
 {
-    let mut i = 0;
-    while i < out.len() {
-        out[i] = 0;
-        i += 1;
-    }
+    out.fill(0);
 }
 
 // One value in every byte.
 pub fn fill_bytes(out: &mut [u8], v: u8)
     ensures { out.new ≡ replicate (length out.old) v }
 {
-    let mut i = 0;
-    while i < out.len() {
-        out[i] = v;
-        i += 1;
-    }
+    out.fill(v);
 }
 
 // Bytes to bytes.
+#[tactic(auto, using(crate::proofs::Laws::Painting::cut))]
 pub fn copy(from: &[u8], to: &mut [u8])
     ensures { to.new ≡ over from.now to.old }
 {
-    let n = lesser(from.len(), to.len());
-    let mut i = 0;
-    while i < n {
-        to[i] = from[i];
-        i += 1;
-    }
+    let n = from.len().min(to.len());
+    to[..n].copy_from_slice(&from[..n]);
 }
 
 // Bytes to pixels.
+#[tactic(auto, using(units::proofs::Laws::Over::putting))]
 pub fn widen(from: &[u8], to: &mut [u16])
     ensures { to.new ≡ over from.now to.old }
 {
-    let n = lesser(from.len(), to.len());
-    let mut i = 0;
-    while i < n {
-        to[i] = from[i] as u16;
-        i += 1;
+    let n = from.len().min(to.len());
+    for i in 0..n {
+        to[i] = u16::from(from[i]);
     }
 }
 
 // The low bytes of pixels.
+#[tactic(auto, using(units::proofs::Laws::Over::putting, units::proofs::Laws::LittleEndian::low_places))]
 pub fn narrow(from: &[u16], to: &mut [u8])
     ensures { to.new ≡ over (low_bytes from.now) to.old }
 {
-    let n = lesser(from.len(), to.len());
-    let mut i = 0;
-    while i < n {
+    let n = from.len().min(to.len());
+    for i in 0..n {
         to[i] = (from[i] % 256) as u8;
-        i += 1;
     }
 }

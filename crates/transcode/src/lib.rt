@@ -5,11 +5,13 @@
 // lent, so one row stands on the stack.
 #![tactic(auto)]
 
-ghost use Rattle.std.specs.Prelude.{◌≡◌, ◌||◌, ◌++◌, length, drop};
+ghost use Rattle.std.specs.Prelude.{◌≡◌, ◌++◌, length, drop, IfOk};
+ghost use Rattle.refusals.specs.Faults.{status_of};
+ghost use Rattle.refusals.specs.Rejections.{rejected_by};
 ghost use Rattle.units.specs.Rules.{first};
 ghost use Rattle.limits.specs.Limits.{most_pixels};
 ghost use Rattle.header.specs.Rejections.{rules_to22};
-ghost use Rattle.layout.specs.Scanline.{head_of};
+ghost use Rattle.layout.specs.Scanline.{head_of, reading_of};
 ghost use Rattle.layout.specs.Chain.{sheet_of, raster_of};
 ghost use Rattle.encode_answer.specs.Sizes.{answer_by};
 ghost use Rattle.encode_answer.specs.Answer.{write_numbers};
@@ -19,18 +21,19 @@ ghost use Rattle.transcode.specs.Transcoding.{line_rules, transcoding, out_trans
 ghost use Rattle.transcode.specs.Laws.Answer.{old_row, new_size, Movable, Ready, IsSurvey, Surveyed, LineFits, IsWritten, LinesFit};
 
 use decode_scanline::read_scanline;
-use encode_answer::{WriteAnswer, or_long, rejected};
+use encode_answer::or_long;
 use encode_body::{body_size, write_body};
 use header::rejection_to_22;
 use layout::{RasterLayout, sheet_layout};
 use numbering::number_line;
+use refusals::{Fault, Rejection};
 use scan_scanline::{body_start, first_column};
 use transcode_parts::{answer_by_lines, carry_header, fit_header, other_type, unmoved_type};
 use units::{Bytes, bytes_to_words};
 
 // What the scanlines are, of which the first that is refused ends the survey: whether one starts partway, whether a new body is too long
-// for a scanline header to count, and the bytes of all new scanlines.
-#[derive(Clone, Copy)]
+// for a scanline header to count, and the bytes of all new scanlines. `refused` is a flag among others, since one function gives 41 and 42.
+#[derive(Clone, Copy, Debug, PartialEq, Eq)]
 pub struct Survey {
     pub refused: bool,
     pub partway: bool,
@@ -38,24 +41,23 @@ pub struct Survey {
     pub size: Bytes,
 }
 
-// The status of a scanline, how many bytes on the next one starts, whether it starts partway, and the bytes of its new body.
-#[derive(Clone, Copy)]
+// How many bytes on the scanline after a good one starts, whether it starts partway, and the bytes of its new body.
+#[derive(Clone, Copy, Debug, PartialEq, Eq)]
 pub struct LineSurvey {
-    pub status: u8,
     pub used: Bytes,
     pub partway: bool,
     pub body: Bytes,
 }
 
 // How many bytes on the next scanline starts in the old raster and in the new one.
-#[derive(Clone, Copy)]
+#[derive(Clone, Copy, Debug, PartialEq, Eq)]
 pub struct LineSizes {
     pub used: Bytes,
     pub size: Bytes,
 }
 
-// Moves the raster of a file to the other type.
-pub fn transcode(file: &[u8], out: &mut [u8]) -> WriteAnswer
+// Moves the raster of a file to the other type, and answers the new file's length.
+pub fn transcode(file: &[u8], out: &mut [u8]) -> Result<Bytes, Rejection>
     ensures result_value { write_numbers result ≡ transcoding file.now (length out.old) }
     ensures out_after { out.new ≡ out_transcoded file.now out.old }
 {
@@ -64,92 +66,84 @@ pub fn transcode(file: &[u8], out: &mut [u8]) -> WriteAnswer
 }
 
 // The same by way of pixels that hold the widest row there is.
-fn transcode_by(file: &[u8], pixels: &mut [u16], out: &mut [u8]) -> WriteAnswer
+fn transcode_by(file: &[u8], pixels: &mut [u16], out: &mut [u8]) -> Result<Bytes, Rejection>
     requires { length pixels.old ≡ most_pixels }
     ensures result_value { write_numbers result ≡ transcoding file.now (length out.old) }
     ensures out_after { out.new ≡ out_transcoded file.now out.old }
 {
-    let number = file_rejection(file);
-    if number != 0 {
-        return rejected(number);
-    }
+    file_rejection(file)?;
     let sheet = sheet_layout(file);
     let p = sheet.ppl as usize;
     transcode_sheet(file, sheet, &mut pixels[..p], out)
 }
 
 // The same of a file that is not rejected, by way of one row.
-fn transcode_sheet(file: &[u8], l: RasterLayout, row: &mut [u16], out: &mut [u8]) -> WriteAnswer
+fn transcode_sheet(
+    file: &[u8],
+    l: RasterLayout,
+    row: &mut [u16],
+    out: &mut [u8],
+) -> Result<Bytes, Rejection>
     requires { Movable file.now l row.old }
     ensures result_value { write_numbers result ≡ transcoding file.now (length out.old) }
     ensures out_after { out.new ≡ out_transcoded file.now out.old }
 {
-    let plan = plan_file(file, l, out.len(), row);
-    if plan.number != 0 {
-        return plan;
-    }
+    let size = plan_file(l, out.len(), row)?;
     let start = l.start;
     carry_header(&file[..start], other_type(l.dtc), out);
-    write_lines(file, l, row, &mut out[start..]);
-    plan
+    write_lines(l, row, &mut out[start..]);
+    Ok(size)
 }
 
-// 10 to 22, and 30 for a data type other than 1 and 9; or 0.
-fn file_rejection(file: &[u8]) -> u16
-    ensures { result ≡ first (rules_to22 file.now ++ unmoved_rules (sheet_of file.now).data_type) }
+// 10 to 22, and 30 for a data type other than 1 and 9.
+fn file_rejection(file: &[u8]) -> Result<(), Rejection>
+    ensures { rejected_by result ≡ first (rules_to22 file.now ++ unmoved_rules (sheet_of file.now).data_type) }
 {
-    let number = rejection_to_22(file);
-    if number != 0 {
-        return number;
-    }
+    rejection_to_22(file)?;
     let sheet = sheet_layout(file);
     unmoved_type(sheet.dtc)
 }
 
-// 41, 42, 27, 10 and 28, or 0 and the new file's length, for an output of `room`.
-fn plan_file(bytes: &[u8], l: RasterLayout, room: usize, row: &mut [u16]) -> WriteAnswer
-    requires { Ready (raster_of l bytes.now) row.old }
-    ensures result_value { write_numbers result ≡ answer_by (first (line_rules (raster_of l bytes.now) (new_size (raster_of l bytes.now)) room)) (new_size (raster_of l bytes.now)) }
+// The new file's length for an output of `room`, or 41, 42, 27, 10 or 28.
+fn plan_file(l: RasterLayout, room: usize, row: &mut [u16]) -> Result<Bytes, Rejection>
+    requires { Ready (raster_of l) row.old }
+    ensures result_value { write_numbers result ≡ answer_by (first (line_rules (raster_of l.entry) (new_size (raster_of l.entry)) room)) (new_size (raster_of l.entry)) }
     ensures row_len_unchanged { length row.new ≡ length row.old }
 {
-    let lines = survey_lines(bytes, l, row);
+    let lines = survey_lines(l, row);
     let size = l.start + lines.size.0;
     answer_by_lines(l.scn, lines.refused, lines.partway, lines.long, size, room)
 }
 
 // Goes through the scanlines before one is written.
-fn survey_lines(bytes: &[u8], l: RasterLayout, row: &mut [u16]) -> Survey
-    requires { Ready (raster_of l bytes.now) row.old }
-    ensures surveyed { Surveyed (raster_of l bytes.now) result }
+fn survey_lines(l: RasterLayout, row: &mut [u16]) -> Survey
+    requires { Ready (raster_of l) row.old }
+    ensures surveyed { Surveyed (raster_of l.entry) result }
     ensures row_len_unchanged { length row.new ≡ length row.old }
 {
     let to = other_type(l.dtc);
     let head = body_start(l.scn);
-    let n = l.nol as usize;
     let mut at = l.start;
     let mut rollover = 0;
     let mut partway = false;
     let mut long = false;
     let mut size = 0;
-    let mut k = 0;
-    while k < n {
-        let rest = &bytes[at..];
+    for k in 0..l.nol as usize {
+        let rest = &l.bytes[at..];
         let numbered = number_line(rollover, k, rest);
-        let line = survey_line(rest, l, numbered.number, to, row);
-        if line.status != 0 {
+        let Ok(line) = survey_line(rest, l, numbered.number, to, row) else {
             return Survey {
                 refused: true,
                 partway,
                 long,
                 size: Bytes(size),
             };
-        }
-        partway = either(partway, line.partway);
+        };
+        partway = partway || line.partway;
         long = or_long(long, bytes_to_words(line.body));
         size += head + line.body.0;
         at += line.used.0;
         rollover = numbered.rollover;
-        k += 1;
     }
     Survey {
         refused: false,
@@ -160,51 +154,43 @@ fn survey_lines(bytes: &[u8], l: RasterLayout, row: &mut [u16]) -> Survey
 }
 
 // Surveys a scanline in the bytes that are left. `number` is the line number that its header must have, and `to` the new data type.
-fn survey_line(rest: &[u8], l: RasterLayout, number: u16, to: u16, row: &mut [u16]) -> LineSurvey
-    ensures survey { IsSurvey l.scn l.dtc (length row.old) number to rest.now result }
-    ensures row_after { row.new ≡ old_row l.scn l.dtc (length row.old) number rest.now }
+fn survey_line(
+    rest: &[u8],
+    l: RasterLayout,
+    number: u16,
+    to: u16,
+    row: &mut [u16],
+) -> Result<LineSurvey, Fault>
+    ensures status { status_of result ≡ (reading_of l.entry.scn l.entry.dtc (length row.old) number rest.now).status }
+    ensures survey { IfOk result (λ s. IsSurvey l.entry.scn l.entry.dtc (length row.old) number to rest.now s) }
+    ensures row_after { row.new ≡ old_row l.entry.scn l.entry.dtc (length row.old) number rest.now }
 {
-    let line = read_scanline(l.scn, l.dtc, number, rest, row);
-    let used = line.used;
-    let partway = first_column(l.scn, rest) != 0;
-    let body = body_size(to, l.scn, row);
-    LineSurvey {
-        status: line.status,
-        used,
-        partway,
-        body,
-    }
-}
-
-fn either(a: bool, b: bool) -> bool
-    ensures { result ≡ (a || b) }
-{
-    if a {
-        return true;
-    }
-    b
+    let line = read_scanline(l.scn, l.dtc, number, rest, row)?;
+    line.body?;
+    Ok(LineSurvey {
+        used: line.used,
+        partway: first_column(l.scn, rest) != 0,
+        body: body_size(to, l.scn, row),
+    })
 }
 
 // Writes the new scanlines one after the other.
-fn write_lines(bytes: &[u8], l: RasterLayout, row: &mut [u16], out: &mut [u8])
-    requires ready { Ready (raster_of l bytes.now) row.old }
-    requires lines_fit { LinesFit (raster_of l bytes.now) out.old }
-    ensures { out.new ≡ new_lines (raster_of l bytes.now) l.nol ++ drop (length (new_lines (raster_of l bytes.now) l.nol)) out.old }
+fn write_lines(l: RasterLayout, row: &mut [u16], out: &mut [u8])
+    requires ready { Ready (raster_of l) row.old }
+    requires lines_fit { LinesFit (raster_of l) out.old }
+    ensures { out.new ≡ new_lines (raster_of l.entry) l.entry.nol ++ drop (length (new_lines (raster_of l.entry) l.entry.nol)) out.old }
 {
     let to = other_type(l.dtc);
-    let n = l.nol as usize;
     let mut from = l.start;
     let mut rollover = 0;
     let mut at = 0;
-    let mut k = 0;
-    while k < n {
-        let rest = &bytes[from..];
+    for k in 0..l.nol as usize {
+        let rest = &l.bytes[from..];
         let numbered = number_line(rollover, k, rest);
         let line = write_line(rest, l, numbered.number, to, row, &mut out[at..]);
         from += line.used.0;
         rollover = numbered.rollover;
         at += line.size.0;
-        k += 1;
     }
 }
 
@@ -218,11 +204,13 @@ fn write_line(
     out: &mut [u8],
 ) -> LineSizes
     requires { LineFits l.scn to (head_of rest.now) (old_row l.scn l.dtc (length row.old) number rest.now) out.old }
-    ensures written { IsWritten l.scn l.dtc (length row.old) number to rest.now out.old result out.new }
-    ensures row_after { row.new ≡ old_row l.scn l.dtc (length row.old) number rest.now }
+    ensures written { IsWritten l.entry.scn l.entry.dtc (length row.old) number to rest.now out.old result out.new }
+    ensures row_after { row.new ≡ old_row l.entry.scn l.entry.dtc (length row.old) number rest.now }
 {
-    let line = read_scanline(l.scn, l.dtc, number, rest, row);
-    let used = line.used;
+    let used = match read_scanline(l.scn, l.dtc, number, rest, row) {
+        Ok(line) => line.used,
+        Err(_) => Bytes(0),
+    };
     let size = put_line(l.scn, to, rest, row, out);
     LineSizes { used, size }
 }

@@ -1,9 +1,10 @@
-// The small parts of the move between data types 1 and 9: what the types are, which number rejects it, and the headers of the new file.
+// The small parts of the move between data types 1 and 9: what the types are, what rejects it, and the headers of the new file.
 //
 // They are apart from the move because each stands for itself: none looks at a scanline's body.
 #![tactic(auto)]
 
 ghost use Rattle.std.specs.Prelude.{◌≡◌, min};
+ghost use Rattle.refusals.specs.Rejections.{rejected_by};
 ghost use Rattle.units.specs.Over.{over};
 ghost use Rattle.units.specs.Rules.{first};
 ghost use Rattle.encode_answer.specs.Sizes.{most_words, answer_by};
@@ -11,9 +12,10 @@ ghost use Rattle.encode_answer.specs.Answer.{write_numbers};
 ghost use Rattle.transcode_parts.specs.Headers.{other_type, with_type, fitted};
 ghost use Rattle.transcode_parts.specs.Rules.{unmoved_rules, found_rules};
 
-use encode_answer::{WriteAnswer, answer_by_size, rejected};
+use encode_answer::answer_by_size;
+use refusals::Rejection;
 use slices::copy;
-use units::{Words, lesser, put_word};
+use units::{Bytes, Words, put_word};
 
 // From 1 to 9, and from 9 to 1.
 pub fn other_type(dtc: u16) -> u16
@@ -22,20 +24,17 @@ pub fn other_type(dtc: u16) -> u16
     if dtc == 1 { 9 } else { 1 }
 }
 
-// 30 for a data type other than 1 and 9, which has no other to be moved to; or 0.
-pub fn unmoved_type(dtc: u16) -> u16
-    ensures { result ≡ first (unmoved_rules dtc) }
+// 30 for a data type other than 1 and 9, which has no other to be moved to.
+pub fn unmoved_type(dtc: u16) -> Result<(), Rejection>
+    ensures { rejected_by result ≡ first (unmoved_rules dtc) }
 {
-    if dtc == 1 {
-        return 0;
+    match dtc {
+        1 | 9 => Ok(()),
+        _ => Err(Rejection::Unmoved),
     }
-    if dtc == 9 {
-        return 0;
-    }
-    30
 }
 
-// 41, 42, 27, 10 and 28, or 0 and the length, by what was found in the scanlines, for a new file of `size` bytes and an output of `room`.
+// The length, or 41, 42, 27, 10 or 28, by what was found in the scanlines, for a new file of `size` bytes and an output of `room`.
 pub fn answer_by_lines(
     scn: u8,
     refused: bool,
@@ -43,14 +42,14 @@ pub fn answer_by_lines(
     long: bool,
     size: usize,
     room: usize,
-) -> WriteAnswer
+) -> Result<Bytes, Rejection>
     ensures { write_numbers result ≡ answer_by (first (found_rules scn refused partway long size room)) size }
 {
     if refused {
-        return rejected(41);
+        return Err(Rejection::RefusedLine);
     }
     if partway {
-        return rejected(42);
+        return Err(Rejection::PartwayLine);
     }
     answer_by_size(scn, long, size, room)
 }
@@ -69,6 +68,6 @@ pub fn fit_header(head: &[u8], body: Words, out: &mut [u8])
     ensures { out.new ≡ fitted (over head.now out.old) (min body.0 most_words.0) }
 {
     copy(head, out);
-    let follow = lesser(body.0, 65533) + 2;
+    let follow = body.0.min(65533) + 2;
     put_word(out, 2, follow as u16);
 }

@@ -7,10 +7,12 @@
 // one of them is above its limit; else `short` where pixels are missing.
 #![tactic(auto)]
 
-use orient::{picture_size, turn, turn_back};
-use slices::fill;
+ghost use Rattle.std.specs.Prelude.{◌≤◌, length};
+
+use orient::{PictureSize, picture_size, turn, turn_back};
+use refusals::Rejection;
 use std::io;
-use text::{put, put_field, read_full};
+use text::{Text, read_full};
 use units::{Words, load_words, store_words, u32_at, word_count, words_to_bytes};
 
 fn main(rt: HostRuntime) -> io::Result<()> {
@@ -22,98 +24,70 @@ fn main(rt: HostRuntime) -> io::Result<()> {
 fn probe(rt: &impl Print, input: &[u8]) -> io::Result<()> {
     let mut read = [0u16; 60000];
     let mut filled = [0u16; 60000];
-    run(rt, input, &mut read, &mut filled)
-}
-
-// The buffers have room for the most that is taken.
-fn run(rt: &impl Print, input: &[u8], read: &mut [u16], filled: &mut [u16]) -> io::Result<()> {
     if input.len() < 28 {
         return rt.write_all(b"short\n");
     }
     let n = u32_at(input, 16) as usize;
     let m = u32_at(input, 20) as usize;
-    if read.len() < n {
+    if read.len() < n || filled.len() < m {
         return rt.write_all(b"too long\n");
     }
-    if filled.len() < m {
-        return rt.write_all(b"too long\n");
+    let read = &mut read[..n];
+    let filled = &mut filled[..m];
+    match u32_at(input, 0) {
+        0 => turn_given(rt, turn, input, read, filled),
+        1 => turn_given(rt, turn_back, input, read, filled),
+        _ => rt.write_all(b"too long\n"),
     }
-    run_within(rt, input, &input[28..], &mut read[..n], &mut filled[..m])
 }
 
-// The buffers are as long as is asked for; `given` is what follows the numbers.
-fn run_within(
+// The buffers are as long as is asked for.
+fn turn_given<F: Fn(u32, u32, u32, &[u16], &mut [u16]) -> Result<(), Rejection>>(
     rt: &impl Print,
+    step: F,
     input: &[u8],
-    given: &[u8],
     read: &mut [u16],
     filled: &mut [u16],
-) -> io::Result<()> {
-    let way = u32_at(input, 0);
-    let value = u32_at(input, 24);
-    if 1 < way {
+) -> io::Result<()>
+    requires callable { F.IsAlwaysCallable step }
+    requires numbers { 28 ≤ length input.now }
+    requires room { length filled.old ≤ 60000 }
+{
+    let Ok(value) = u16::try_from(u32_at(input, 24)) else {
         return rt.write_all(b"too long\n");
-    }
-    if 65535 < value {
-        return rt.write_all(b"too long\n");
-    }
+    };
+    let given = &input[28..];
     if word_count(given).0 < read.len() {
         return rt.write_all(b"short\n");
     }
     load_words(given, read);
-    fill(filled, value as u16);
-    turn_given(rt, way, input, read, filled)
-}
-
-fn turn_given(
-    rt: &impl Print,
-    way: u32,
-    input: &[u8],
-    read: &[u16],
-    filled: &mut [u16],
-) -> io::Result<()> {
+    filled.fill(value);
     let slo = u32_at(input, 4);
     let ppl = u32_at(input, 8);
     let nol = u32_at(input, 12);
-    let number = turn_either(way, slo, ppl, nol, read, filled);
-    print_answer(rt, number, slo, ppl, nol)?;
+    let turned = step(slo, ppl, nol, read, filled).map(|()| picture_size(slo, ppl, nol));
+    print_answer(rt, turned)?;
     print_pixels(rt, filled)
 }
 
-fn turn_either(way: u32, slo: u32, ppl: u32, nol: u32, read: &[u16], filled: &mut [u16]) -> u32 {
-    if way == 0 {
-        return turn(slo, ppl, nol, read, filled);
+fn print_answer(rt: &impl Print, turned: Result<PictureSize, Rejection>) -> io::Result<()> {
+    let mut line = Text::<64>::new();
+    match turned {
+        Err(rejection) => line.put_rejection(rejection),
+        Ok(size) => {
+            line.put_field(b"turned ", u64::from(size.width));
+            line.put_field(b" ", u64::from(size.height));
+            line.put(b"\n");
+        }
     }
-    turn_back(slo, ppl, nol, read, filled)
+    rt.write_all(line.as_bytes())
 }
 
-fn print_answer(rt: &impl Print, number: u32, slo: u32, ppl: u32, nol: u32) -> io::Result<()> {
-    let mut line = [0u8; 64];
-    let end = put_answer(&mut line, number, slo, ppl, nol);
-    print(rt, &line, end)
-}
-
-fn put_answer(out: &mut [u8], number: u32, slo: u32, ppl: u32, nol: u32) -> usize {
-    if number != 0 {
-        let at = put_field(out, 0, b"refused ", number as u64);
-        return put(out, at, b"\n");
-    }
-    let size = picture_size(slo, ppl, nol);
-    let at = put_field(out, 0, b"turned ", size.width as u64);
-    let end = put_field(out, at, b" ", size.height as u64);
-    put(out, end, b"\n")
-}
-
-// Writes the first `end` bytes.
-fn print(rt: &impl Print, text: &[u8], end: usize) -> io::Result<()> {
-    if end <= text.len() {
-        return rt.write_all(&text[..end]);
-    }
-    Ok(())
-}
-
-fn print_pixels(rt: &impl Print, pixels: &[u16]) -> io::Result<()> {
+fn print_pixels(rt: &impl Print, pixels: &[u16]) -> io::Result<()>
+    requires { length pixels.now ≤ 60000 }
+{
     let mut bytes = [0u8; 120000];
     store_words(pixels, &mut bytes);
-    print(rt, &bytes, words_to_bytes(Words(pixels.len())).0)
+    let n = words_to_bytes(Words(pixels.len())).0;
+    rt.write_all(&bytes[..n])
 }

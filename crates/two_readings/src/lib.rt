@@ -10,12 +10,13 @@ ghost use Rattle.decode_raster.specs.Answer.{raster_numbers};
 ghost use Rattle.isolation.specs.Statement.{ChangedInBodies, Isolated};
 ghost use Rattle.two_readings.specs.Call.{ReadingOf};
 
-use decode_raster::{RasterAnswer, read_raster};
+use decode_raster::{Reading, read_raster};
+use refusals::Rejection;
 
 #[derive(Clone, Copy)]
 pub struct TwoAnswers {
-    pub first: RasterAnswer,
-    pub second: RasterAnswer,
+    pub first: Result<Reading, Rejection>,
+    pub second: Result<Reading, Rejection>,
 }
 
 // Reads one file into the first two buffers and another into the second two. Where the first has scanline headers and its

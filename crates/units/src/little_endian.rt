@@ -8,25 +8,27 @@ pub fn byte_at(s: &[u8], at: usize) -> u8
     if at < s.len() { s[at] } else { 0 }
 }
 
+#[tactic(auto, unfolding(crate::specs::LittleEndian::u16_at))]
 pub fn u16_at(s: &[u8], at: usize) -> u16
     ensures { result ≡ u16_at s.now at }
 {
     if at < s.len() {
         let low = byte_at(s, at);
         let high = byte_at(s, at + 1);
-        (low as u16) + 256 * (high as u16)
+        u16::from_le_bytes([low, high])
     } else {
         0
     }
 }
 
+#[tactic(auto, unfolding(crate::specs::LittleEndian::u16_at, crate::specs::LittleEndian::u32_at))]
 pub fn u32_at(s: &[u8], at: usize) -> u32
     ensures { result ≡ u32_at s.now at }
 {
     if at < s.len() {
         let low = u16_at(s, at);
         let high = u16_at(s, at + 2);
-        (low as u32) + 65536 * (high as u32)
+        u32::from(low) + 65536 * u32::from(high)
     } else {
         0
     }

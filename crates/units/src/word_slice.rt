@@ -5,7 +5,7 @@ ghost use Rattle.units.specs.LittleEndian.{u32_bytes};
 ghost use Rattle.units.specs.Over.{over};
 ghost use Rattle.units.specs.Words.{words, two_bytes, words_to_bytes, word_count, word_start};
 
-use crate::{Bytes, Words, bytes_to_words, lesser};
+use crate::{Bytes, Words, bytes_to_words};
 
 // How many whole words a slice holds.
 pub fn word_count(s: &[u8]) -> Words
@@ -22,33 +22,31 @@ pub fn word_start(s: &[u8], i: usize) -> usize
     if n < i { s.len() } else { 2 * i }
 }
 
-// Loads the words of a slice from its start on, as far as the buffer goes.
+// Loads the words of a slice from its start on, as far as the buffer goes. No `from_le_bytes`, since an edit of must-fail/ changes the
+// weight of the high byte.
+#[tactic(auto, using(crate::proofs::Laws::Words::loading), unfolding(crate::specs::LittleEndian::u16_at))]
 pub fn load_words(from: &[u8], to: &mut [u16])
     ensures { to.new ≡ over (words from.now) to.old }
 {
-    let count = word_count(from).0;
-    let n = lesser(count, to.len());
-    let mut i = 0;
-    while i < n {
-        let low = from[2 * i] as u16;
-        let high = from[2 * i + 1] as u16;
+    let n = word_count(from).0.min(to.len());
+    for i in 0..n {
+        let low = u16::from(from[2 * i]);
+        let high = u16::from(from[2 * i + 1]);
         to[i] = low + 256 * high;
-        i += 1;
     }
 }
 
 // Stores words from the start of a buffer on, as far as it goes.
+#[tactic(auto, using(crate::proofs::Laws::Stores::storing))]
 pub fn store_words(from: &[u16], to: &mut [u8])
     ensures { to.new ≡ over (words_to_bytes from.now) to.old }
 {
     // those that fit whole
-    let n = lesser(from.len(), to.len() / 2);
-    let mut i = 0;
-    while i < n {
-        let w = from[i];
-        to[2 * i] = (w % 256) as u8;
-        to[2 * i + 1] = (w / 256) as u8;
-        i += 1;
+    let n = from.len().min(to.len() / 2);
+    for i in 0..n {
+        let [low, high] = from[i].to_le_bytes();
+        to[2 * i] = low;
+        to[2 * i + 1] = high;
     }
     if n < from.len() {
         put_word(to, 2 * n, from[n]);
@@ -56,33 +54,30 @@ pub fn store_words(from: &[u16], to: &mut [u8])
 }
 
 // Stores one word over and over from the start of a buffer on, as far as it goes.
+#[tactic(auto, using(crate::proofs::Laws::Stores::storing))]
 pub fn fill_words(out: &mut [u8], w: u16)
     ensures { out.new ≡ over (words_to_bytes (replicate (length out.old) w)) out.old }
 {
-    let low = (w % 256) as u8;
-    let high = (w / 256) as u8;
+    let [low, high] = w.to_le_bytes();
     // those that fit whole
     let n = out.len() / 2;
-    let mut i = 0;
-    while i < n {
+    for i in 0..n {
         out[2 * i] = low;
         out[2 * i + 1] = high;
-        i += 1;
     }
     put_word(out, 2 * n, w);
 }
 
 // Stores bytes as words from the start of a buffer on, as far as it goes.
+#[tactic(auto, using(crate::proofs::Laws::Stores::storing))]
 pub fn widen_words(from: &[u8], to: &mut [u8])
     ensures { to.new ≡ over (words_to_bytes from.now) to.old }
 {
     // those that fit whole
-    let n = lesser(from.len(), to.len() / 2);
-    let mut i = 0;
-    while i < n {
+    let n = from.len().min(to.len() / 2);
+    for i in 0..n {
         to[2 * i] = from[i];
         to[2 * i + 1] = 0;
-        i += 1;
     }
     if n < from.len() {
         put_byte(to, 2 * n, from[n]);
@@ -104,8 +99,9 @@ pub fn put_word(out: &mut [u8], at: usize, w: u16)
     ensures { out.new ≡ sets out.old at (two_bytes w) }
 {
     if at < out.len() {
-        put_byte(out, at, (w % 256) as u8);
-        put_byte(out, at + 1, (w / 256) as u8);
+        let [low, high] = w.to_le_bytes();
+        put_byte(out, at, low);
+        put_byte(out, at + 1, high);
     }
 }
 

@@ -11,7 +11,7 @@ ghost use Rattle.packing.specs.Packing.{bits, word_bits};
 ghost use Rattle.packing.specs.Weights.{powers, pick, picked};
 
 use slices::widen;
-use units::{lesser, u16_at, word_count};
+use units::{Words, u16_at, word_count, words_to_bytes};
 
 // How many of a row's p pixels the words of a body hold. Words are compared, so no product can overflow.
 pub fn pixels_held(body: &[u8], p: usize) -> usize
@@ -27,16 +27,15 @@ pub fn unpack(body: &[u8], row: &mut [u16])
 {
     let n = pixels_held(body, row.len());
     let weights = kept_weights(n / 16);
-    let whole = n - n % 16;
-    let mut at = 0;
-    let mut i = 0;
-    while at < whole {
+    let whole = n / 16;
+    for k in 0..whole {
+        let at = 16 * k;
         let end = at + 16;
+        let i = words_to_bytes(Words(k)).0;
         put_word(body, i, &weights, &mut row[at..end]);
-        at = end;
-        i += 2;
     }
-    put_bits(u16_at(body, i), &mut row[at..n]);
+    let last = words_to_bytes(Words(whole)).0;
+    put_bits(u16_at(body, last), &mut row[16 * whole..n]);
 }
 
 // The weights of a byte's bits, the highest first; and all of them once more.
@@ -70,16 +69,15 @@ fn put_word(body: &[u8], i: usize, weights: &[u16; 8], part: &mut [u16])
 }
 
 // The pixels of a byte.
+#[tactic(auto, using(packing::proofs::Laws::Weights::pick_steps))]
 fn put_byte(b: u8, weights: &[u16; 8], part: &mut [u16])
     requires weights_len { length weights.now ≡ 8 }
     requires part_len { length part.old ≡ 8 }
     ensures { part.new ≡ picked b weights.now }
 {
-    let w = b as u16;
-    let mut j = 0;
-    while j < 8 {
+    let w = u16::from(b);
+    for j in 0..8 {
         part[j] = bit(w, weights[j]);
-        j += 1;
     }
 }
 
@@ -91,13 +89,12 @@ fn bit(w: u16, weight: u16) -> u16
 }
 
 // The pixels of a word from the first on, as far as the part goes, one at a time.
+#[tactic(auto, using(packing::proofs::Laws::Weights::bit_steps))]
 pub fn put_bits(w: u16, part: &mut [u16])
     ensures { part.new ≡ over (bits 16 w) part.old }
 {
-    let n = lesser(16, part.len());
-    let mut j = 0;
-    while j < n {
+    let n = part.len().min(16);
+    for j in 0..n {
         part[j] = (w >> (15 - j)) % 2;
-        j += 1;
     }
 }

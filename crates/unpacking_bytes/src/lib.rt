@@ -9,7 +9,7 @@ ghost use Rattle.packing.specs.Packing.{bits, word_bits};
 ghost use Rattle.packing.specs.Weights.{powers, pick, picked};
 
 use slices::copy;
-use units::{store_words, u16_at, word_count};
+use units::{Words, store_words, u16_at, word_count, words_to_bytes};
 use unpacking::put_bits;
 
 // Stores a body's pixels from the start of a row on, as far as both go.
@@ -18,16 +18,15 @@ pub fn unpack_bytes(body: &[u8], row: &mut [u8])
 {
     let n = bytes_held(body, row.len());
     let weights = kept_weights(n / 32);
-    let whole = n - n % 32;
-    let mut at = 0;
-    let mut i = 0;
-    while at < whole {
+    let whole = n / 32;
+    for k in 0..whole {
+        let at = 32 * k;
         let end = at + 32;
+        let i = words_to_bytes(Words(k)).0;
         put_word(body, i, &weights, &mut row[at..end]);
-        at = end;
-        i += 2;
     }
-    put_last(u16_at(body, i), &mut row[at..n]);
+    let last = words_to_bytes(Words(whole)).0;
+    put_last(u16_at(body, last), &mut row[32 * whole..n]);
 }
 
 // How many of a row's bytes the pixels of a body fill.
@@ -43,7 +42,7 @@ fn bytes_held(body: &[u8], size: usize) -> usize
 fn put_last(w: u16, part: &mut [u8])
     ensures { part.new ≡ over (words_to_bytes (bits 16 w)) part.old }
 {
-    if part.len() == 0 {
+    if part.is_empty() {
         return;
     }
     let mut pixels = [0u16; 16];
@@ -83,15 +82,14 @@ fn put_word(body: &[u8], i: usize, weights: &[u8; 16], part: &mut [u8])
 }
 
 // The pixels of a byte.
+#[tactic(auto, using(packing::proofs::Laws::Weights::pick_steps))]
 fn put_byte(b: u8, weights: &[u8; 16], part: &mut [u8])
     requires weights_len { length weights.now ≡ 16 }
     requires part_len { length part.old ≡ 16 }
     ensures { part.new ≡ picked b weights.now }
 {
-    let mut j = 0;
-    while j < 16 {
+    for j in 0..16 {
         part[j] = bit(b, weights[j]);
-        j += 1;
     }
 }
 

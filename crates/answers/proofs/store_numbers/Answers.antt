@@ -1,4 +1,4 @@
-use Rattle.std.proofs.Common.{◌*◌, zero-le, refl, sym, ◌∙◌, ap, arith, length, get_or}
+use Rattle.std.proofs.Common.{◌*◌, refl, sym, ◌∙◌, ap, arith, length, get_or}
 use lib.Seq.{length-sets}
 use Rattle.units.specs.LittleEndian.{u32_bytes}
 use Rattle.units.proofs.Laws.Over.{sets_over}
@@ -7,23 +7,18 @@ use Rattle.answers.proofs.Laws.Numbers.{sets-number, sets-none}
 use Rattle.answers.proofs.store_numbers.Goals as goal
 
 pub loop-i-init : goal.loop-i-init
-loop-i-init c = (zero-le, refl, sets_over (number_bytes _) _)
+loop-i-init c = (refl, sets_over (number_bytes _) _)
 
 pub loop-i-preserved : goal.loop-i-preserved
 loop-i-preserved c =
     let l = c.loop-i in
     let ns = c.args.numbers.now in
     let e = c.put_long.ensures in (
-      omega arith,
-      ap length e ∙ length-sets l.out (4 * l.i) (u32_bytes (get_or ns l.i 0)) ∙ l.invariant.1,
-      rw e (sym (sets-number ns l.out l.i (omega arith)) ∙ l.invariant.2),
+      ap length e ∙ length-sets l.out (4 * l.i) (u32_bytes (get_or ns l.i 0)) ∙ l.invariant.0,
+      rw e (sym (sets-number ns l.out l.i (omega arith)) ∙ l.invariant.1),
     )
-
-pub shape_of-out : goal.shape_of-out
-shape_of-out c = c.loop-i.invariant.1
 
 pub returns : goal.returns
 returns c =
     let l = c.loop-i in
-    let ns = c.args.numbers.now in
-    sym (sets-none ns l.out l.i (omega arith)) ∙ l.invariant.2
+    sym (sets-none c.args.numbers.now l.out l.i (omega arith)) ∙ l.invariant.1

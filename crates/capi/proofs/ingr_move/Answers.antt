@@ -1,24 +1,7 @@
-use Rattle.std.proofs.Common.{◌<◌, arith, length}
-use Rattle.transcode.specs.Transcoding.{out_transcoded}
-use Rattle.transcode.proofs.Laws.Call.{number-from, size_most}
-use Rattle.answers.proofs.Laws.Call.{too_short, kept_if_short}
-use Rattle.capi.specs.Calls.{write_size, c_move}
-use Rattle.capi.proofs.Laws.Writing.{wrote}
+use Rattle.std.proofs.Common.{refl, length}
+use Rattle.transcode.proofs.Laws.Call.{size_most}
+use Rattle.capi.proofs.Laws.Writing.{length_fits}
 use Rattle.capi.proofs.ingr_move.Goals as goal
 
-pub returns-then-answer-lt-WRITE_SIZE : goal.returns-then-answer-lt-WRITE_SIZE
-returns-then-answer-lt-WRITE_SIZE c =
-    let a = c.args in
-    let h : length a.answer.now < write_size = omega (arith, c.if-answer-lt-WRITE_SIZE.true) in
-    let t = too_short write_size (c_move a.file.now (length a.out.now)) a.answer.now h in record { value = t.0; answer_after = t.1; out_after = kept_if_short write_size a.answer.now a.out.now (out_transcoded a.file.now a.out.now) h }
-
-pub store_written-requires : goal.store_written-requires
-store_written-requires c =
-    let a = c.args in
-    let room = length a.out.now in
-    let x = c.transcode-written.ensures.result_value in record { write_size_in_bounds = omega (arith, c.if-answer-lt-WRITE_SIZE.false); told = record { number-from = number-from a.file.now room c.transcode-written.result x; size_most = size_most a.file.now room c.transcode-written.result x } }
-
-pub returns : goal.returns
-returns c =
-    let a = c.args in
-    let x = c.transcode-written.ensures in let both = wrote x.result_value a.answer.now a.out.now (omega (arith, c.if-answer-lt-WRITE_SIZE.false)) x.out_after (c.store_written.ensures.value, c.store_written.ensures.answer_after) in record { value = both.0; answer_after = both.1.0; out_after = both.1.1 }
+pub of_written-requires : goal.of_written-requires
+of_written-requires c = length_fits c.transcode.result c.transcode.ensures.result_value (size_most c.args.file.now (length c.args.out.now) _ refl)

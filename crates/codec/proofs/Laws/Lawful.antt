@@ -9,7 +9,7 @@ use Rattle.units.proofs.Laws.Rules.{none_holds}
 use Rattle.units.proofs.Laws.Words.{length-words, words-taken}
 use Rattle.packing.specs.Packing.{word_bits, packed_count}
 use Rattle.packing.proofs.Laws.Bits.{length-word_bits}
-use Rattle.codec.specs.declared.Extent.{Extent}
+use Rattle.codec.specs.Extent.{Extent}
 use Rattle.codec.specs.Codec.{Codec, kept, taken, fault}
 use Rattle.codec.specs.PackedPixels.{packed_rules, spare_set, packed_codec}
 use Rattle.codec.specs.BytePixels.{byte_rules, byte_codec}

@@ -12,7 +12,7 @@ use Rattle.units.specs.Words.{words}
 use Rattle.units.proofs.Laws.Words.{length-words, words_step, words_take}
 use Rattle.units.specs.LittleEndian.{u16_at}
 use Rattle.codec.specs.PairPixels.{pair_pixels, pair_total, pair_rules, pairs_from}
-use Rattle.codec.specs.declared.Extent.{Extent}
+use Rattle.codec.specs.Extent.{Extent}
 use Rattle.codec.specs.Codec.{taken, fault}
 
 module _ (b : List ℕ) (i : ℕ) (more : i + 4 ≤ length b) where

@@ -9,7 +9,7 @@ use Rattle.units.proofs.Laws.Rules.{none_holds, both_true}
 use Rattle.units.specs.Words.{words, word_count}
 use Rattle.units.proofs.Laws.Words.{words_step, words-none}
 use Rattle.codec.specs.RunPixels.{run_pixels, run_total, run_rules, runs_from, run_extent}
-use Rattle.codec.specs.declared.Extent.{Extent}
+use Rattle.codec.specs.Extent.{Extent}
 use Rattle.codec.specs.Codec.{taken, fault}
 
 -- the pixels from byte i on: one run and the rest, or none

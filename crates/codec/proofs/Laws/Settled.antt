@@ -8,7 +8,7 @@ use Rattle.units.specs.Counts.{word_bytes}
 use Rattle.units.specs.Words.{words, word_count}
 use Rattle.units.proofs.Laws.Words.{length-words, words_take}
 use Rattle.packing.specs.Packing.{packed_count}
-use Rattle.codec.specs.declared.Extent.{Extent}
+use Rattle.codec.specs.Extent.{Extent}
 use Rattle.codec.specs.Codec.{kept, taken, fault}
 use Rattle.codec.specs.PackedPixels.{spare_set, packed_extent}
 use Rattle.codec.specs.BytePixels.{byte_extent}

@@ -1,14 +1,12 @@
-use Rattle.std.proofs.Common.{length, drop, ◌-◌, ◌≤◌, ◌≡◌}
+use Rattle.std.proofs.Common.{◌≡◌}
+use Rattle.std.specs.Slice.Iter.{chunks_exact_rest, chunks_exact_size}
 use lib.Seq.{sets}
 use Rattle.units.specs.Over.{over}
 use Rattle.units.specs.Words.{words}
 use Rattle.codec.specs.PairPixels.{pair_pixels}
 use Rattle.decode_pairs.proofs.paint_pairs.Given as goal
 
-abbrev pub invariant-loop-i : goal.invariant-loop-i
-invariant-loop-i l =
-    (l.i ≤ length l.body) × (length l.row ≡ length l.initial.row)
-    × (sets l.row l.at (pair_pixels (words (drop l.i l.body))) ≡ over (pair_pixels (words l.body)) l.initial.row)
-
-abbrev pub decreases-loop-i : goal.decreases-loop-i
-decreases-loop-i l = length l.body - l.i
+abbrev pub invariant-loop-pair : goal.invariant-loop-pair
+invariant-loop-pair l =
+    (chunks_exact_size l.pair-iterator ≡ 4)
+    × (sets l.row l.at (pair_pixels (words (chunks_exact_rest l.pair-iterator))) ≡ over (pair_pixels (words l.body)) l.initial.row)

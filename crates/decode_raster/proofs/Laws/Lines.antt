@@ -10,6 +10,7 @@ use Rattle.std.proofs.Math.ListN.{length, drop, set, replicate, length-set}
 use Rattle.std.proofs.lemmas.List.{length-replicate, replicate-append-replicate}
 use Rattle.std.proofs.lemmas.Bool.{not-true}
 use borrow.Rule.Slice.PartMut.{mid_of, put_mid, mid_len, same_len_mid}
+use Rattle.refusals.specs.Faults.{status_of}
 use Rattle.units.proofs.Laws.Parts.{row_within, replace_part, store_next}
 use Rattle.units.specs.Over.{zeros}
 use Rattle.layout.specs.Scanline.{Reading}
@@ -17,12 +18,12 @@ use Rattle.layout.specs.Chain.{Raster, start, reached, reading_at, rows, statuse
 use Rattle.layout.proofs.Laws.Chain.{reading_unreached, unreached-start, unreached-suc, length-reading, length-statuses, good_suc}
 use Rattle.layout.proofs.Laws.Numbering.{known_first, known_lost}
 use Rattle.decode_raster.specs.declared.Chain.{Chain}
-use Rattle.decode_raster.specs.Laws.Answer.{Storing, Fits, ChainAt, Stepped}
+use Rattle.decode_raster.specs.Laws.Answer.{Storing, good_chain, Fits, ChainAt, Stepped}
 pub use Rattle.decode_raster.specs.Laws.Lines.{LinesAt, Done}
 
 -- before the first
 pub lines_first : (r : Raster) (s : Storing r.ppl) (pixels marks : List ℕ)
-    → LinesAt r s pixels marks pixels marks (record { at = r.data_start; lost = false; good = 0; status = 0; rollover = 0 }) 0
+    → LinesAt r s pixels marks pixels marks (good_chain r.data_start 0 0) 0
 unfolding start reached good_count rows statuses
 lines_first r s pixels marks =
     record {
@@ -53,10 +54,10 @@ module _ (r : Raster) (s : Storing r.ppl) (pixels₀ marks₀ pixels marks : Lis
   lent_length = omega (arith, mid_len (k * s.width) (k * s.width + s.width) pixels row_fits)
 
   -- one scanline more
-  pub lines_next : (d : Chain) (row : List ℕ) → Stepped r s k d row
-      → LinesAt r s pixels₀ marks₀ (put_mid (k * s.width) (k * s.width + s.width - k * s.width) pixels row) (set marks k d.status) d (k + 1)
+  pub lines_next : (d : Chain) (row : List ℕ) → Stepped r s k d row → (mark : ℕ) → mark ≡ status_of d.status
+      → LinesAt r s pixels₀ marks₀ (put_mid (k * s.width) (k * s.width + s.width - k * s.width) pixels row) (set marks k mark) d (k + 1)
   unfolding rows statuses
-  lines_next d row x =
+  lines_next d row x mark marked =
       let w = s.width in
       let full : length row ≡ w = ap length x.row_is ∙ s.row_width (reading_at r k).row (length-reading r k) in
       let e : k * w + w ≡ k * w + length row = ap (λ (n : ℕ). k * w + n) (sym full) in
@@ -64,7 +65,7 @@ module _ (r : Raster) (s : Storing r.ppl) (pixels₀ marks₀ pixels marks : Lis
       let g : k * w + w ≤ length pixels₀ = row_within k r.nol w (length pixels₀) more room.pixels_fit in
       let m : k < length marks₀ = omega (arith, room.marks_fit) in
       subst⁻¹
-      (λ (i : ℕ). LinesAt r s pixels₀ marks₀ (put_mid (k * w) (k * w + w - k * w) pixels row) (set marks k d.status) d i)
+      (λ (i : ℕ). LinesAt r s pixels₀ marks₀ (put_mid (k * w) (k * w + w - k * w) pixels row) (set marks k mark) d i)
       (add-one k)
       (record {
         low = more;
@@ -76,11 +77,11 @@ module _ (r : Raster) (s : Storing r.ppl) (pixels₀ marks₀ pixels marks : Lis
             ∙ ap (λ (y : List ℕ). y ++ drop (k * w + w) pixels₀) (sym (s.more (rows r k) (reading_at r k).row))
             ∙ ap (λ (n : ℕ). s.image (rows r k ++ (reading_at r k).row) ++ drop n pixels₀) (sym end);
         marks_is =
-            ap (λ (y : List ℕ). set y k d.status) now.marks_is
-            ∙ store_next (statuses r k) marks₀ k d.status (length-statuses r k) m
-            ∙ ap (λ (v : ℕ). (statuses r k ++ (v ∷ [])) ++ drop (suc k) marks₀) x.status;
+            ap (λ (y : List ℕ). set y k mark) now.marks_is
+            ∙ store_next (statuses r k) marks₀ k mark (length-statuses r k) m
+            ∙ ap (λ (v : ℕ). (statuses r k ++ (v ∷ [])) ++ drop (suc k) marks₀) (marked ∙ x.status);
         pixels-length = same_len_mid (k * w) (k * w + w - k * w) pixels row (full ∙ sym lent_length) ∙ now.pixels-length;
-        marks_length = length-set marks k d.status ∙ now.marks_length;
+        marks_length = length-set marks k mark ∙ now.marks_length;
       })
     where
       ap_chain : ChainAt r (k + 1) d → ChainAt r (suc k) d
@@ -131,10 +132,10 @@ module _ (r : Raster) (k : ℕ) (u : reached r k ≡ false) where
 
 module _ (r : Raster) (s : Storing r.ppl) (pixels₀ marks₀ pixels marks : List ℕ) (c : Chain) (k : ℕ) (now : LinesAt r s pixels₀ marks₀ pixels marks c k)
     (more : k < r.nol) (room : Fits r s.width (length pixels₀) (length marks₀)) where
-  pub lines_lost : c.lost ≡ true
+  all_lost : c.lost ≡ true
       → Done r s pixels₀ marks₀ (put_mid (k * s.width) (r.nol * s.width - k * s.width) pixels (zeros (r.nol * s.width - k * s.width)))
       (put_mid k (r.nol - k) marks (replicate (r.nol - k) 9)) c
-  lines_lost lost =
+  all_lost lost =
       let w = s.width in
       let n = r.nol in
       let m = n - k in
@@ -165,3 +166,13 @@ module _ (r : Raster) (s : Storing r.ppl) (pixels₀ marks₀ pixels marks : Lis
             ∙ replace_part (statuses r k) (replicate m 9) marks₀ k n (length-statuses r k) (omega arith) room.marks_fit
             ∙ ap (λ (y : List ℕ). y ++ drop n marks₀) (sym (rest-statuses r k u m) ∙ ap (statuses r) all);
       }
+
+  -- as they are filled, in places of some width
+  pub lines_lost : c.lost ≡ true → (width : ℕ) → width ≡ s.width
+      → (blank nines : List ℕ) → blank ≡ zeros (length (mid_of (k * width) (r.nol * width - k * width) pixels))
+      → nines ≡ replicate (length (mid_of k (r.nol - k) marks)) 9
+      → Done r s pixels₀ marks₀ (put_mid (k * width) (r.nol * width - k * width) pixels blank) (put_mid k (r.nol - k) marks nines) c
+  lines_lost lost width w blank nines b n =
+      let f : r.nol * s.width ≤ length pixels = omega (arith, room.pixels_fit, now.pixels-length) in
+      let g : r.nol ≤ length marks = omega (arith, room.marks_fit, now.marks_length) in
+      rw (b, n, w, mid_len (k * s.width) (r.nol * s.width) pixels f, mid_len k r.nol marks g) (all_lost lost)

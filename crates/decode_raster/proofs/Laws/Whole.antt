@@ -18,6 +18,7 @@ use Rattle.layout.specs.Reading.{buffer_rules, raster_rejection, answer_of, read
 use Rattle.layout.specs.PixelBytes.{bytes_rejection, bytes_reading, pixel_bytes_after, byte_marks_after}
 use Rattle.layout.proofs.Laws.PixelBytes.{bytes_rejection_lem}
 use Rattle.decode_raster.specs.declared.Chain.{Chain}
+use Rattle.decode_raster.specs.Answer.{chain_numbers}
 use Rattle.decode_raster.specs.Laws.Answer.{as_pixels, as_bytes, rows-bytes, Fits, ChainAt}
 use Rattle.decode_raster.proofs.Laws.Lines.{Done}
 
@@ -27,7 +28,7 @@ module _ (f : List ℕ) (pixels marks : ℕ) {n : ℕ} (number : n ≡ rejection
   unfolding rejection_to22 raster_rejection
   by_file some = by_first (rules_to22 f) (buffer_rules (sheet_of f).ppl (sheet_of f).nol pixels marks) number some
 
-  module _ (none : n ≡ 0) {l : RasterLayout} (read : raster_of l f ≡ sheet_of f) where
+  module _ (none : n ≡ 0) (l : RasterLayout) (read : raster_of l ≡ sheet_of f) where
     past_file : raster_rejection f pixels marks ≡ first (buffer_rules l.ppl l.nol pixels marks)
     unfolding rejection_to22 raster_rejection
     past_file =
@@ -58,12 +59,11 @@ sheet_fits f pixels marks e =
     }
 
 -- The answer where nothing is rejected, by the chain's end.
-read_answer : (f : List ℕ) (l : RasterLayout) (read : raster_of l f ≡ sheet_of f) (c : Chain) → ChainAt (sheet_of f) (sheet_of f).nol c
-    → (a : ℕ) → a ≡ answer_of c.good l.nol
-    → record { answer = a; good = c.good; end = c.at } ≡ read_numbers (sheet_of f)
-read_answer f l read c chain a answer =
-    let x : a ≡ answer_of (good_count (sheet_of f) (sheet_of f).nol) (sheet_of f).nol =
-    answer ∙ ap (λ (r : Raster). answer_of c.good r.nol) read ∙ ap (λ (g : ℕ). answer_of g (sheet_of f).nol) chain.good in
+read_answer : (f : List ℕ) (l : RasterLayout) (read : raster_of l ≡ sheet_of f) (c : Chain) → ChainAt (sheet_of f) (sheet_of f).nol c
+    → chain_numbers c l.nol ≡ read_numbers (sheet_of f)
+read_answer f l read c chain =
+    let x : answer_of c.good l.nol ≡ answer_of (good_count (sheet_of f) (sheet_of f).nol) (sheet_of f).nol =
+    ap (λ (r : Raster). answer_of c.good r.nol) read ∙ ap (λ (g : ℕ). answer_of g (sheet_of f).nol) chain.good in
     λ i. record { answer = x i; good = chain.good i; end = chain.at i }
 
 module _ (f pixels marks : List ℕ) {n : ℕ} (number : n ≡ raster_rejection f (length pixels) (length marks)) where
@@ -74,21 +74,20 @@ module _ (f pixels marks : List ℕ) {n : ℕ} (number : n ≡ raster_rejection 
       let t : eqb (raster_rejection f (length pixels) (length marks)) 0 ≡ false = ne_eqb _ 0 (λ z. some (number ∙ z)) in
       (rw t (ap rejected_raster number), (rw t, rw t))
 
-  module _ (none : n ≡ 0) (l : RasterLayout) (read : raster_of l f ≡ sheet_of f) where
-    pub has_room : Fits (raster_of l f) l.ppl (length pixels) (length marks)
+  module _ (none : n ≡ 0) (l : RasterLayout) (read : raster_of l ≡ sheet_of f) where
+    pub has_room : Fits (raster_of l) l.ppl (length pixels) (length marks)
     has_room =
         subst (λ (r : Raster). Fits r r.ppl (length pixels) (length marks)) (sym read)
         (sheet_fits f (length pixels) (length marks) (sym number ∙ none))
 
-    pub read_whole : (c : Chain) (pixels' marks' : List ℕ) → Done (raster_of l f) (as_pixels l.ppl) pixels marks pixels' marks' c
-        → (a : ℕ) → a ≡ answer_of c.good l.nol
-        → (record { answer = a; good = c.good; end = c.at } ≡ raster_reading f pixels marks)
+    pub read_whole : (c : Chain) (pixels' marks' : List ℕ) → Done (raster_of l) (as_pixels l.ppl) pixels marks pixels' marks' c
+        → (chain_numbers c l.nol ≡ raster_reading f pixels marks)
         × ((pixels' ≡ pixels_after f pixels marks) × (marks' ≡ marks_after f pixels marks))
     unfolding raster_reading pixels_after marks_after
-    read_whole c pixels' marks' done a answer =
+    read_whole c pixels' marks' done =
         let t : eqb (raster_rejection f (length pixels) (length marks)) 0 ≡ true = eq-eqb _ 0 (sym number ∙ none) in
         let d = subst (λ (r : Raster). Done r (as_pixels r.ppl) pixels marks pixels' marks' c) read done in
-        (rw t (read_answer f l read c d.chain a answer), (rw t d.pixels_is, rw t d.marks_is))
+        (rw t (read_answer f l read c d.chain), (rw t d.pixels_is, rw t d.marks_is))
 
 -- Into bytes: as for as many pixels as there is room for.
 module _ (f pixels marks : List ℕ) {n : ℕ} (number : n ≡ raster_rejection f (length pixels / 2) (length marks)) where
@@ -102,8 +101,8 @@ module _ (f pixels marks : List ℕ) {n : ℕ} (number : n ≡ raster_rejection 
       let t : eqb (bytes_rejection f (length pixels) (length marks)) 0 ≡ false = ne_eqb _ 0 (λ z. some (by_bytes ∙ z)) in
       (rw t (ap rejected_raster by_bytes), (rw t, rw t))
 
-  module _ (none : n ≡ 0) (l : RasterLayout) (read : raster_of l f ≡ sheet_of f) where
-    pub has_room_bytes : Fits (raster_of l f) (word_bytes l.ppl) (length pixels) (length marks)
+  module _ (none : n ≡ 0) (l : RasterLayout) (read : raster_of l ≡ sheet_of f) where
+    pub has_room_bytes : Fits (raster_of l) (word_bytes l.ppl) (length pixels) (length marks)
     has_room_bytes =
         let x = sheet_fits f (length pixels / 2) (length marks) (sym number ∙ none) in
         subst (λ (r : Raster). Fits r (word_bytes r.ppl) (length pixels) (length marks)) (sym read)
@@ -114,16 +113,15 @@ module _ (f pixels marks : List ℕ) {n : ℕ} (number : n ≡ raster_rejection 
           marks_fit = x.marks_fit;
         })
 
-    pub read-whole-bytes : (c : Chain) (pixels' marks' : List ℕ) → Done (raster_of l f) (as_bytes l.ppl) pixels marks pixels' marks' c
-        → (a : ℕ) → a ≡ answer_of c.good l.nol
-        → (record { answer = a; good = c.good; end = c.at } ≡ bytes_reading f pixels marks)
+    pub read-whole-bytes : (c : Chain) (pixels' marks' : List ℕ) → Done (raster_of l) (as_bytes l.ppl) pixels marks pixels' marks' c
+        → (chain_numbers c l.nol ≡ bytes_reading f pixels marks)
         × ((pixels' ≡ pixel_bytes_after f pixels marks) × (marks' ≡ byte_marks_after f pixels marks))
     unfolding bytes_reading pixel_bytes_after byte_marks_after
-    read-whole-bytes c pixels' marks' done a answer =
+    read-whole-bytes c pixels' marks' done =
         let t : eqb (bytes_rejection f (length pixels) (length marks)) 0 ≡ true = eq-eqb _ 0 (sym by_bytes ∙ none) in
         let d = subst (λ (r : Raster). Done r (as_bytes r.ppl) pixels marks pixels' marks' c) read done in
         let e = rows-bytes (sheet_of f).nol (sheet_of f).ppl in (
-          rw t (read_answer f l read c d.chain a answer),
+          rw t (read_answer f l read c d.chain),
           (
             rw t (d.pixels_is ∙ ap (λ (m : ℕ). words_to_bytes (rows (sheet_of f) (sheet_of f).nol) ++ drop m pixels) e),
             rw t d.marks_is,

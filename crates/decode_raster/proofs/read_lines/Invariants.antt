@@ -1,11 +1,7 @@
-use Rattle.std.proofs.Common.{◌-◌}
 use Rattle.layout.specs.Chain.{raster_of}
 use Rattle.decode_raster.specs.Laws.Answer.{as_pixels}
 use Rattle.decode_raster.proofs.Laws.Lines.{LinesAt}
 use Rattle.decode_raster.proofs.read_lines.Given as goal
 
 abbrev pub invariant-loop-k : goal.invariant-loop-k
-invariant-loop-k l = LinesAt (raster_of l.l l.bytes) (as_pixels l.l.ppl) l.initial.pixels l.initial.marks l.pixels l.marks l.chain l.k
-
-abbrev pub decreases-loop-k : goal.decreases-loop-k
-decreases-loop-k l = l.n - l.k
+invariant-loop-k l = LinesAt (raster_of l.raster) (as_pixels l.raster.ppl) l.initial.pixels l.initial.marks l.pixels l.marks l.chain l.k

@@ -1,6 +1,7 @@
 -- What is known of a raster's chain on the way, and how its rows are stored.
 use Rattle.std.specs.Prelude.{ℕ, zero, suc, ◌+◌, ◌*◌, ◌≤◌, ◌≡◌, refl, not, List, [], ◌++◌, length}
 use Rattle.std.proofs.Common.{sym, ◌∙◌, ap, zero-mul, suc-mul, arith}
+use Rattle.refusals.specs.Faults.{status_of}
 use Rattle.units.specs.Counts.{word_bytes}
 use Rattle.units.specs.Over.{zeros}
 use Rattle.units.specs.Words.{words_to_bytes}
@@ -9,6 +10,7 @@ use Rattle.limits.specs.Limits.{most_lines}
 use Rattle.layout.specs.Chain.{Raster, start, reached, reading_at, good_count}
 use Rattle.layout.proofs.Laws.Numbering.{RolloverKnown}
 use Rattle.decode_raster.specs.declared.Chain.{Chain}
+unfoldable pub use Rattle.decode_raster.specs.Answer.{good_chain}
 
 -- A way to store rows of p pixels: what a list of pixels is in the buffer, and the places that a row takes there.
 pub record Storing (p : ℕ) : Type 0 where
@@ -59,5 +61,5 @@ pub record ChainAt (r : Raster) (k : ℕ) (c : Chain) : Type 0 where
 -- the chain after scanline k, with its status and its row
 pub record Stepped (r : Raster) (s : Storing r.ppl) (k : ℕ) (c : Chain) (row : List ℕ) : Type 0 where
   pub chain : ChainAt r (k + 1) c
-  pub status : c.status ≡ (reading_at r k).status
+  pub status : status_of c.status ≡ (reading_at r k).status
   pub row_is : row ≡ s.image (reading_at r k).row

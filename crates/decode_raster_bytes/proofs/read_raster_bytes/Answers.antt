@@ -1,22 +1,27 @@
-use Rattle.std.proofs.Common.{ℕ, ◌/◌, ◌≡◌, ◌∙◌, ap, length}
-use Rattle.layout.specs.Reading.{raster_rejection}
+use Rattle.std.proofs.Common.{◌∙◌, refl}
+use Rattle.std.proofs.lemmas.Result.{err_from_is_err_and}
+use Rattle.refusals.proofs.Laws.Numbers.{numbered}
 use Rattle.decode_raster.proofs.Laws.Whole.{rejected_bytes, has_room_bytes, read-whole-bytes}
 use Rattle.decode_raster_bytes.proofs.read_raster_bytes.Goals as goal
 
-pub returns-then-number-ne0 : goal.returns-then-number-ne0
-returns-then-number-ne0 c =
-    let number : let a = c.args in c.raster_rejection-number.result ≡ raster_rejection a.file.now (length a.pixels.now / 2) (length a.marks.now) = let a = c.args in c.raster_rejection-number.ensures ∙ ap (λ (n : ℕ). raster_rejection a.file.now n (length a.marks.now)) c.bytes_to_words-room.ensures in
-    let a = c.args in let both = rejected_bytes a.file.now a.pixels.now a.marks.now number c.if-number-ne0.true in record { result_value = both.0; pixels_after = both.1.0; marks_after = both.1.1 }
+pub returns-in_err-raster_rejection : goal.returns-in_err-raster_rejection
+returns-in_err-raster_rejection c =
+    let a = c.args in
+    let e = err_from_is_err_and c.from_residual.result c.from_residual.ensures.1 in
+    let x = rejected_bytes a.file.now a.pixels.now a.marks.now (rw c.bytes_to_words-room.ensures at c.in_err-raster_rejection.ensures) (numbered _) in
+    record { result_value = rw (e.1, e.2) x.0; pixels_after = x.1.0; marks_after = x.1.1 }
 
 pub read_lines-chain-requires : goal.read_lines-chain-requires
 read_lines-chain-requires c =
-    let number : let a = c.args in c.raster_rejection-number.result ≡ raster_rejection a.file.now (length a.pixels.now / 2) (length a.marks.now) = let a = c.args in c.raster_rejection-number.ensures ∙ ap (λ (n : ℕ). raster_rejection a.file.now n (length a.marks.now)) c.bytes_to_words-room.ensures in
     let a = c.args in
-    has_room_bytes a.file.now a.pixels.now a.marks.now number c.if-number-ne0.false c.sheet_layout-sheet.result c.sheet_layout-sheet.ensures
+    let sheet = c.sheet_layout-sheet in
+    has_room_bytes a.file.now a.pixels.now a.marks.now (rw c.bytes_to_words-room.ensures at c.in_ok-raster_rejection.ensures) refl sheet.result sheet.ensures
 
 pub returns : goal.returns
 returns c =
-    let number : let a = c.args in c.raster_rejection-number.result ≡ raster_rejection a.file.now (length a.pixels.now / 2) (length a.marks.now) = let a = c.args in c.raster_rejection-number.ensures ∙ ap (λ (n : ℕ). raster_rejection a.file.now n (length a.marks.now)) c.bytes_to_words-room.ensures in
-    let a = c.args in let both = read-whole-bytes a.file.now a.pixels.now a.marks.now number c.if-number-ne0.false c.sheet_layout-sheet.result
-    c.sheet_layout-sheet.ensures c.read_lines-chain.result c.read_lines-chain.new.pixels c.read_lines-chain.new.marks c.read_lines-chain.ensures
-    c.answer_of.result c.answer_of.ensures in record { result_value = both.0; pixels_after = both.1.0; marks_after = both.1.1 }
+    let a = c.args in
+    let sheet = c.sheet_layout-sheet in
+    let d = c.read_lines-chain in
+    let x = read-whole-bytes a.file.now a.pixels.now a.marks.now (rw c.bytes_to_words-room.ensures at c.in_ok-raster_rejection.ensures) refl sheet.result sheet.ensures d.result
+    d.new.pixels d.new.marks d.ensures in
+    record { result_value = c.reading.ensures ∙ x.0; pixels_after = x.1.0; marks_after = x.1.1 }

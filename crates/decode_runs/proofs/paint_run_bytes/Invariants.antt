@@ -1,4 +1,5 @@
-use Rattle.std.proofs.Common.{length, drop, ◌-◌, ◌≤◌, ◌≡◌}
+use Rattle.std.proofs.Common.{length, ◌≤◌, ◌≡◌}
+use Rattle.std.specs.Slice.Iter.{chunks_exact_rest, chunks_exact_size}
 use lib.Seq.{sets}
 use Rattle.units.specs.Over.{over, zeros}
 use Rattle.units.specs.Words.{words, words_to_bytes}
@@ -6,10 +7,7 @@ use Rattle.slices.proofs.Laws.Painting.{blank_from}
 use Rattle.codec.specs.RunPixels.{run_pixels}
 use Rattle.decode_runs.proofs.paint_run_bytes.Given as goal
 
-abbrev pub invariant-loop-i : goal.invariant-loop-i
-invariant-loop-i l =
-    (l.i ≤ length l.body) × (l.level ≤ 1) × (length l.row ≡ length l.initial.row) × (l.at ≤ length l.row)
-    × (sets (blank_from l.at l.row) l.at (words_to_bytes (run_pixels l.level (words (drop l.i l.body)))) ≡ over (words_to_bytes (run_pixels 0 (words l.body))) (zeros (length l.initial.row)))
-
-abbrev pub decreases-loop-i : goal.decreases-loop-i
-decreases-loop-i l = length l.body - l.i
+abbrev pub invariant-loop-word : goal.invariant-loop-word
+invariant-loop-word l =
+    (chunks_exact_size l.word-iterator ≡ 2) × (l.level ≤ 1) × (l.at ≤ length l.row)
+    × (sets (blank_from l.at l.row) l.at (words_to_bytes (run_pixels l.level (words (chunks_exact_rest l.word-iterator)))) ≡ over (words_to_bytes (run_pixels 0 (words l.body))) (zeros (length l.initial.row)))

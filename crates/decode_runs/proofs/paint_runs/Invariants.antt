@@ -1,14 +1,12 @@
-use Rattle.std.proofs.Common.{length, drop, ◌-◌, ◌≤◌, ◌≡◌}
+use Rattle.std.proofs.Common.{◌≤◌, ◌≡◌}
+use Rattle.std.specs.Slice.Iter.{chunks_exact_rest, chunks_exact_size}
 use lib.Seq.{sets}
 use Rattle.units.specs.Over.{over}
 use Rattle.units.specs.Words.{words}
 use Rattle.codec.specs.RunPixels.{run_pixels}
 use Rattle.decode_runs.proofs.paint_runs.Given as goal
 
-abbrev pub invariant-loop-i : goal.invariant-loop-i
-invariant-loop-i l =
-    (l.i ≤ length l.body) × (l.level ≤ 1) × (length l.row ≡ length l.initial.row)
-    × (sets l.row l.at (run_pixels l.level (words (drop l.i l.body))) ≡ over (run_pixels 0 (words l.body)) l.initial.row)
-
-abbrev pub decreases-loop-i : goal.decreases-loop-i
-decreases-loop-i l = length l.body - l.i
+abbrev pub invariant-loop-word : goal.invariant-loop-word
+invariant-loop-word l =
+    (chunks_exact_size l.word-iterator ≡ 2) × (l.level ≤ 1)
+    × (sets l.row l.at (run_pixels l.level (words (chunks_exact_rest l.word-iterator))) ≡ over (run_pixels 0 (words l.body)) l.initial.row)

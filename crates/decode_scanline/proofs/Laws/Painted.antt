@@ -1,17 +1,21 @@
 -- What is painted of a good scanline, in a row of pixels or of their bytes, is the reading's row.
-use Rattle.std.specs.Prelude.{ℕ, ◌-◌, ◌≤◌, ◌≡◌, List, ◌++◌, length, take, drop}
+use Rattle.std.specs.Prelude.{ℕ, ◌-◌, ◌≤◌, ◌≡◌, refl, Result, Ok, Err, List, ◌++◌, length, take, drop}
 use Rattle.std.proofs.Common.{sym, ◌∙◌, ap, append_assoc, arith, length-drop, length-append}
 use Rattle.std.proofs.lemmas.List.{length-replicate}
+use Rattle.refusals.specs.declared.Fault.{Fault}
+use Rattle.refusals.specs.Faults.{status_of}
+use Rattle.refusals.proofs.Laws.Numbers.{marked}
 use Rattle.units.specs.Counts.{word_bytes}
 use Rattle.units.specs.Over.{over, zeros}
 use Rattle.units.specs.Words.{words_to_bytes}
 use Rattle.units.proofs.Laws.Over.{over_all, over_fits}
 use Rattle.units.proofs.Laws.Stores.{length-bytes, bytes-append, zero-bytes}
+use Rattle.codec.specs.Extent.{Extent, extent_of}
 use Rattle.codec.specs.Table.{body_pixels}
-use Rattle.layout.specs.Scanline.{Reading, Step}
-use Rattle.scan_scanline.specs.declared.Scanline.{Scanline}
-use Rattle.scan_scanline.specs.Answer.{IsScan}
-use Rattle.scan_scanline.proofs.Laws.Body.{GoodBody}
+use Rattle.codec.specs.declared.Scanline.{Scanline}
+use Rattle.layout.specs.Scanline.{Reading, Step, step_of, reading_of}
+use Rattle.scan_scanline.specs.Answer.{IsScan, body_start, first_column}
+use Rattle.scan_scanline.proofs.Laws.Body.{GoodBody, blank-line, good_line}
 use Rattle.decode_scanline.specs.Answer.{IsLine}
 
 module _ {t p : ℕ} {rest : List ℕ} {from used column : ℕ} {row : List ℕ} (good : GoodBody t p rest from used column row) where
@@ -52,5 +56,25 @@ cleared_bytes n end old row e fits z =
     let l : length (zeros (word_bytes n)) ≡ word_bytes n = length-replicate (word_bytes n) 0 in
     rw (z, zero-bytes n, over_fits (zeros (word_bytes n)) old (omega arith), l, e)
 
-pub scan-of : {s : Step} {x : Reading} {r : Scanline} {row : List ℕ} → IsLine s x r row → IsScan s x r
+pub scan-of : {s : Step} {x : Reading} {r : Extent} {row : List ℕ} → IsLine s x r row → IsScan s x r
 scan-of l = record { status = l.status; lost = l.lost; used = l.used }
+
+pub line-of : {s : Step} {x : Reading} {r : Extent} {row : List ℕ} → IsScan s x r → row ≡ x.row → IsLine s x r row
+line-of scan e = record { status = scan.status; lost = scan.lost; used = scan.used; row_is = e }
+
+good_is : (body : Result Unit Fault) → status_of body ≡ 0 → body ≡ Ok tt
+good_is (Ok tt) z = refl
+good_is (Err f) z = absurd (marked f z)
+
+-- by what a scan answers
+module _ (scn t p number : ℕ) (rest : List ℕ) (read : Result Scanline Fault) (scan : IsScan (step_of scn t p rest) (reading_of scn t p number rest) (extent_of read)) where
+  pub good_read : (line : Scanline) → read ≡ Ok line → line.body ≡ Ok tt → {from column : ℕ} → from ≡ body_start scn → column ≡ first_column scn rest
+      → GoodBody t p rest from line.used.0 column (reading_of scn t p number rest).row
+  good_read line e good start col = good_line scn t p number rest (rw e at scan) start col (ap status_of good)
+
+  -- where it is refused or lost
+  pub blank_read : (line : Scanline) → read ≡ Ok line → (line.body ≡ Ok tt → ⊥) → (reading_of scn t p number rest).row ≡ zeros p
+  blank_read line e refused = blank-line scn t p number rest (rw e at scan) (λ z. refused (good_is line.body z))
+
+  pub blank_lost : (f : Fault) → read ≡ Err f → (reading_of scn t p number rest).row ≡ zeros p
+  blank_lost f e = blank-line scn t p number rest (rw e at scan) (marked f)

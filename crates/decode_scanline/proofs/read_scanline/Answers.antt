@@ -1,53 +1,47 @@
-use Rattle.std.proofs.Common.{arith, refl, sym, ◌∙◌, length}
-use Rattle.layout.proofs.Laws.Line.{used_within}
-use Rattle.scan_scanline.proofs.Laws.Body.{GoodBody, blank-line, good_line}
-use Rattle.decode_scanline.proofs.Laws.Painted.{painted_line}
+use Rattle.std.proofs.Common.{◌≡◌, sym, ◌∙◌, refl, length, arith, rules}
+use Rattle.units.specs.Over.{zeros}
 use Rattle.layout.specs.Scanline.{reading_of}
+use Rattle.layout.proofs.Laws.Line.{used_within}
+use Rattle.decode_scanline.proofs.Laws.Painted.{good_read, blank_read, blank_lost, painted_line, line-of}
 use Rattle.decode_scanline.proofs.read_scanline.Goals as goal
-
-pub returns-then-line-ne0 : goal.returns-then-line-ne0
-returns-then-line-ne0 c =
-    let s = c.scan_scanline-line in
-    let a = c.args in
-    record {
-      status = s.ensures.status;
-      lost = s.ensures.lost;
-      used = s.ensures.used;
-      row_is =
-          c.fill.ensures
-          ∙ sym (blank-line a.scn a.dtc (length a.row.now) a.number a.rest.now s.ensures c.if-line-ne0.true);
-    }
+use Rattle.decode_scanline.proofs.read_scanline.Goals.{in_default-via-in-Ok+else-eq, in_default-via-in_default}
 
 pub slice_bounds-paint_from-count : goal.slice_bounds-paint_from-count
 slice_bounds-paint_from-count c =
-    let good : let s = c.scan_scanline-line in let a = c.args in GoodBody a.dtc (length a.row.now) a.rest.now c.body_start-from.result s.result.used.0 c.first_column-column.result (reading_of a.scn a.dtc (length a.row.now) a.number a.rest.now).row = let s = c.scan_scanline-line in let a = c.args in good_line a.scn a.dtc (length a.row.now) a.number a.rest.now s.ensures c.body_start-from.ensures c.first_column-column.ensures c.if-line-ne0.false in
-    good.starts
+    let a = c.args in
+    let good = good_read a.scn a.dtc (length a.row.now) a.number a.rest.now _ c.scan_scanline-read.ensures _ c.in-Ok.is (search rules) c.body_start-from.ensures c.first_column-column.ensures in
+    rw c.in-Ok.line-is good.starts
 
 pub slice_bounds-paint_from-start : goal.slice_bounds-paint_from-start
 slice_bounds-paint_from-start c =
-    let good_2 : let s = c.scan_scanline-line in let a = c.args in GoodBody a.dtc (length a.row.now) a.rest.now c.body_start-from.result s.result.used.0 c.first_column-column.result (reading_of a.scn a.dtc (length a.row.now) a.number a.rest.now).row = let s = c.scan_scanline-line in let a = c.args in good_line a.scn a.dtc (length a.row.now) a.number a.rest.now s.ensures c.body_start-from.ensures c.first_column-column.ensures c.if-line-ne0.false in
-    good_2.starts
+    let a = c.args in
+    let good = good_read a.scn a.dtc (length a.row.now) a.number a.rest.now _ c.scan_scanline-read.ensures _ c.in-Ok.is (search rules) c.body_start-from.ensures c.first_column-column.ensures in
+    rw c.in-Ok.line-is good.starts
 
 pub slice_bounds-paint_from-end : goal.slice_bounds-paint_from-end
 slice_bounds-paint_from-end c =
     let a = c.args in
-    omega (arith, c.scan_scanline-line.ensures.used, used_within a.scn a.dtc (length a.row.now) a.rest.now)
+    rw c.in-Ok.line-is (omega (arith, (rw c.in-Ok.is at c.scan_scanline-read.ensures).used, used_within a.scn a.dtc (length a.row.now) a.rest.now))
 
 pub paint_from-requires : goal.paint_from-requires
 paint_from-requires c =
-    let good_3 : let s = c.scan_scanline-line in let a = c.args in GoodBody a.dtc (length a.row.now) a.rest.now c.body_start-from.result s.result.used.0 c.first_column-column.result (reading_of a.scn a.dtc (length a.row.now) a.number a.rest.now).row = let s = c.scan_scanline-line in let a = c.args in good_line a.scn a.dtc (length a.row.now) a.number a.rest.now s.ensures c.body_start-from.ensures c.first_column-column.ensures c.if-line-ne0.false in
-    good_3.fits
-
-pub returns : goal.returns
-returns c =
-    let good_4 : let s = c.scan_scanline-line in let a = c.args in GoodBody a.dtc (length a.row.now) a.rest.now c.body_start-from.result s.result.used.0 c.first_column-column.result (reading_of a.scn a.dtc (length a.row.now) a.number a.rest.now).row = let s = c.scan_scanline-line in let a = c.args in good_line a.scn a.dtc (length a.row.now) a.number a.rest.now s.ensures c.body_start-from.ensures c.first_column-column.ensures c.if-line-ne0.false in
-    let s = c.scan_scanline-line in
     let a = c.args in
-    record {
-      status = s.ensures.status;
-      lost = s.ensures.lost;
-      used = s.ensures.used;
-      row_is =
-          c.paint_from.ensures
-          ∙ painted_line good_4 a.row.now refl;
-    }
+    let good = good_read a.scn a.dtc (length a.row.now) a.number a.rest.now _ c.scan_scanline-read.ensures _ c.in-Ok.is (search rules) c.body_start-from.ensures c.first_column-column.ensures in
+    good.fits
+
+pub returns-in-Ok : goal.returns-in-Ok
+returns-in-Ok c =
+    let a = c.args in
+    let good = good_read a.scn a.dtc (length a.row.now) a.number a.rest.now _ c.scan_scanline-read.ensures _ c.in-Ok.is (search rules) c.body_start-from.ensures c.first_column-column.ensures in
+    line-of c.scan_scanline-read.ensures (rw c.in-Ok.line-is at c.paint_from.ensures ∙ painted_line good a.row.now refl)
+
+pub returns-in_default : goal.returns-in_default
+returns-in_default c =
+    let a = c.args in
+    let f : c.fill.new.self ≡ zeros (length a.row.now) = search rules in
+    let b : (reading_of a.scn a.dtc (length a.row.now) a.number a.rest.now).row ≡ zeros (length a.row.now) =
+    elim c.in_default.branch [
+      | in_default-via-in-Ok+else-eq w ↦ blank_read a.scn a.dtc (length a.row.now) a.number a.rest.now _ c.scan_scanline-read.ensures _ w.in-Ok.is (search rules)
+      | in_default-via-in_default w ↦ blank_lost a.scn a.dtc (length a.row.now) a.number a.rest.now _ c.scan_scanline-read.ensures _ w.in_default.is
+    ] in
+    line-of c.scan_scanline-read.ensures (f ∙ sym b)

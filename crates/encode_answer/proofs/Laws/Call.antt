@@ -1,32 +1,30 @@
 -- Laws of a call that writes a file, whatever rejects it: its number, the written length, and the output.
 use Rattle.std.specs.Prelude.{ℕ, ◌≤◌, ◌≡◌, refl, Bool, true, false, cond, List, ◌++◌, length, take, drop, eqb}
 use Rattle.std.proofs.Common.{sym, ◌∙◌, ap, arith, eqb-true, eq-eqb, ne_eqb, length-append, length-drop, take_at}
-use Rattle.encode_answer.specs.declared.WriteAnswer.{WriteAnswer}
 use Rattle.encode_answer.specs.Sizes.{WriteNumbers, answer_by, out_by}
-use Rattle.encode_answer.specs.Answer.{write_numbers}
 use Rattle.encode_answer.proofs.Laws.Sizes.{answer_number, answer_size}
 
 -- n is the number of the rejection, or 0
 module _ (n : ℕ) (file out : List ℕ) where
   -- the answer and the output of a rejected call, and of one that is not
-  pub refused : (r : WriteAnswer) → r.number ≡ n → (r.number ≡ 0 → ⊥) → r.size.0 ≡ 0
-      → (write_numbers r ≡ answer_by n (length file)) × (out ≡ out_by n file out)
+  pub refused : (r : WriteNumbers) → r.number ≡ n → (r.number ≡ 0 → ⊥) → r.size ≡ 0
+      → (r ≡ answer_by n (length file)) × (out ≡ out_by n file out)
   refused r e some z =
       let t : eqb n 0 ≡ false = ne_eqb n 0 (λ q. some (e ∙ q)) in
       (rw t (λ k. record { number = e k; size = z k }), rw t)
 
-  pub accepted : (r : WriteAnswer) → r.number ≡ n → r.number ≡ 0 → r.size.0 ≡ length file → (now : List ℕ) → now ≡ file ++ drop (length file) out
-      → (write_numbers r ≡ answer_by n (length file)) × (now ≡ out_by n file out)
+  pub accepted : (r : WriteNumbers) → r.number ≡ n → r.number ≡ 0 → r.size ≡ length file → (now : List ℕ) → now ≡ file ++ drop (length file) out
+      → (r ≡ answer_by n (length file)) × (now ≡ out_by n file out)
   accepted r e none z now p =
       let t : eqb n 0 ≡ true = eq-eqb n 0 (sym e ∙ none) in
       (rw t (λ k. record { number = none k; size = z k }), rw t p)
 
   -- what is answered
-  module _ (r : WriteAnswer) (e : write_numbers r ≡ answer_by n (length file)) where
+  module _ (r : WriteNumbers) (e : r ≡ answer_by n (length file)) where
     pub number_is : r.number ≡ n
     number_is = ap (λ (x : WriteNumbers). x.number) e ∙ answer_number n (length file)
 
-    pub size_is : r.number ≡ 0 → r.size.0 ≡ length file
+    pub size_is : r.number ≡ 0 → r.size ≡ length file
     size_is z =
         ap (λ (x : WriteNumbers). x.size) e
         ∙ answer_size n (length file)

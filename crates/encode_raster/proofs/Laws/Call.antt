@@ -3,8 +3,7 @@ use Rattle.std.specs.Prelude.{◌≡◌, ℕ, ◌≤◌, List, ◌++◌, length,
 use Rattle.std.proofs.Common.{sym, ◌∙◌, eq-eqb, ltb-false}
 use Rattle.units.proofs.Laws.Rules.{NoneHolds, none_holds, both_none, first_from}
 use Rattle.encode_header.specs.Picture.{Picture}
-use Rattle.encode_answer.specs.declared.WriteAnswer.{WriteAnswer}
-use Rattle.encode_answer.specs.Answer.{write_numbers}
+use Rattle.encode_answer.specs.Sizes.{WriteNumbers}
 use Rattle.encode_answer.proofs.Laws.Call as call
 use Rattle.encode_raster.specs.File.{file_bytes}
 use Rattle.encode_raster.specs.Writing.{given_rules, picture_rules, writer_rejection, writing, out_after}
@@ -30,7 +29,7 @@ unfolding out_after
 begins i out ok = call.begins (writer_rejection i (length out)) (file_bytes i) out ok
 
 -- the number that the writer answered is that of its rejection, which is 10 or above
-pub number_is : (i : Picture) (room : ℕ) (w : WriteAnswer) → write_numbers w ≡ writing i room → w.number ≡ writer_rejection i room
+pub number_is : (i : Picture) (room : ℕ) (w : WriteNumbers) → w ≡ writing i room → w.number ≡ writer_rejection i room
 unfolding writing
 number_is i room w e = call.number_is (writer_rejection i room) (file_bytes i) (file_bytes i) w e
 
@@ -38,22 +37,22 @@ rejected_from : (i : Picture) (room : ℕ) → (writer_rejection i room ≢ 0) �
 unfolding writer_rejection
 rejected_from i room h = first_from 10 (given_rules i ++ picture_rules i room) tt h
 
-pub number-from : (i : Picture) (room : ℕ) (w : WriteAnswer) → write_numbers w ≡ writing i room → (w.number ≢ 0) → 10 ≤ w.number
+pub number-from : (i : Picture) (room : ℕ) (w : WriteNumbers) → w ≡ writing i room → (w.number ≢ 0) → 10 ≤ w.number
 number-from i room w e h = let s = number_is i room w e in rw s (rejected_from i room (λ z. h (s ∙ z)))
 
 -- the written length
-module _ (i : Picture) (room : ℕ) (w : WriteAnswer) (e : write_numbers w ≡ writing i room) (z : w.number ≡ 0) where
+module _ (i : Picture) (room : ℕ) (w : WriteNumbers) (e : w ≡ writing i room) (z : w.number ≡ 0) where
   ok : writer_rejection i room ≡ 0
   ok = sym (number_is i room w e) ∙ z
 
-  size_is : w.size.0 ≡ length (file_bytes i)
+  size_is : w.size ≡ length (file_bytes i)
   unfolding writing
   size_is = call.size_is (writer_rejection i room) (file_bytes i) (file_bytes i) w e z
 
-  pub size_fits : w.size.0 ≤ room
+  pub size_fits : w.size ≤ room
   size_fits = rw size_is (fits i room ok)
 
-  pub size_most : w.size.0 ≤ 2147483647
+  pub size_most : w.size ≤ 2147483647
   size_most = rw size_is (most i room ok)
 
 -- the writer keeps the output's length

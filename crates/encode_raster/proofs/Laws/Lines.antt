@@ -1,5 +1,5 @@
 -- The loop that writes the scanlines: what holds before scanline k, at its start, from turn to turn and at its end.
-use Rattle.std.specs.Prelude.{◌≡◌, ℕ, zero, suc, ◌+◌, ◌-◌, ◌*◌, ◌<◌, ◌≤◌, Bool, true, false, ◌||◌, List, ◌++◌, length, take, drop, nat_lt, refl}
+use Rattle.std.specs.Prelude.{◌≡◌, ℕ, zero, suc, ◌+◌, ◌-◌, ◌<◌, ◌≤◌, Bool, true, false, ◌||◌, List, ◌++◌, length, drop, nat_lt, refl}
 use Rattle.std.proofs.Common.{zero-le, ◌∙◌, true≢false, ⊎_elim, eq-or-lt_of_le, add-one, eq-eqb, ltb-false}
 use Rattle.std.proofs.Math.Path.{sym, ap, subst⁻¹}
 use native.Mathlib.Omega.{arith}
@@ -14,7 +14,7 @@ use Rattle.encode_raster.specs.Writing.{any_long}
 use Rattle.encode_answer.specs.Sizes.{most_words}
 use Rattle.encode_raster.specs.Laws.Answer.{LineFits, LinesFit}
 use Rattle.encode_raster.proofs.Laws.Bounds.{length_next}
-use Rattle.units.proofs.Laws.Parts.{tail_is, put_next, row_is}
+use Rattle.units.proofs.Laws.Parts.{tail_is, put_next}
 
 -- fewer scanlines are no longer
 grows : (i : Picture) (n k : ℕ) → k ≤ n → length (lines_of i k) ≤ length (lines_of i n)
@@ -51,21 +51,17 @@ pub lines_first : (i : Picture) (out : List ℕ) → LinesAt i out out 0 0
 unfolding lines_of
 lines_first i out = record { low = zero-le; at_is = refl; out_is = refl; same = refl }
 
--- the pixels that are lent for row k
-abbrev lent_row : Picture → ℕ → List ℕ
-lent_row i k = take (k * i.ppl + i.ppl - k * i.ppl) (drop (k * i.ppl) i.pixels)
-
 -- what is known when scanline k is to be written, with this line number
 pub record Turn (i : Picture) (out₀ out : List ℕ) (at number k : ℕ) : Type 0 where
   pub at_within : at ≤ length out
   -- it fits the part that is lent for it
-  pub line_fits : LineFits i.dtc i.scn number (lent_row i k) (mid_of at (length out - at) out)
-  pub size_within : {size : ℕ} → size ≡ length (line_bytes i.dtc i.scn number (lent_row i k)) → at + size ≤ length out
+  pub line_fits : LineFits i.dtc i.scn number (row_at i k) (mid_of at (length out - at) out)
+  pub size_within : {size : ℕ} → size ≡ length (line_bytes i.dtc i.scn number (row_at i k)) → at + size ≤ length out
   -- one scanline more
   pub lines_next : {size : ℕ} {part : List ℕ}
-      → (size ≡ length (line_bytes i.dtc i.scn number (lent_row i k)))
-      × (part ≡ line_bytes i.dtc i.scn number (lent_row i k)
-      ++ drop (length (line_bytes i.dtc i.scn number (lent_row i k))) (mid_of at (length out - at) out))
+      → (size ≡ length (line_bytes i.dtc i.scn number (row_at i k)))
+      × (part ≡ line_bytes i.dtc i.scn number (row_at i k)
+      ++ drop (length (line_bytes i.dtc i.scn number (row_at i k))) (mid_of at (length out - at) out))
       → LinesAt i out₀ (put_mid at (length out - at) out part) (at + size) (k + 1)
 
 module _ (i : Picture) (out₀ out : List ℕ) (at k : ℕ) (now : LinesAt i out₀ out at k) (more : k < i.nol) (fit : LinesFit i i.nol out₀) where
@@ -84,27 +80,23 @@ module _ (i : Picture) (out₀ out : List ℕ) (at k : ℕ) (now : LinesAt i out
   tail_length : length (mid_of at (length out - at) out) ≡ length out - at
   tail_length = ap length (tail_is at out) ∙ length-drop at out
 
-  line_fits : LineFits i.dtc i.scn (written_number k) (lent_row i k) (mid_of at (length out - at) out)
+  line_fits : LineFits i.dtc i.scn (written_number k) (row_at i k) (mid_of at (length out - at) out)
   line_fits =
-      subst⁻¹ (λ (r : List ℕ). LineFits i.dtc i.scn (written_number k) r (mid_of at (length out - at) out)) (row_is k i.ppl i.pixels)
-      (record {
+      record {
         room = omega (arith, line_room, tail_length);
         counted = λ one. counted_each i i.nol k (rw (eq-eqb i.scn 1 one) at fit.counted) more;
-      })
+      }
 
   lines_next : {size : ℕ} {part : List ℕ}
-      → (size ≡ length (line_bytes i.dtc i.scn (written_number k) (lent_row i k)))
-      × (part ≡ line_bytes i.dtc i.scn (written_number k) (lent_row i k)
-      ++ drop (length (line_bytes i.dtc i.scn (written_number k) (lent_row i k))) (mid_of at (length out - at) out))
+      → (size ≡ length (line_bytes i.dtc i.scn (written_number k) (row_at i k)))
+      × (part ≡ line_bytes i.dtc i.scn (written_number k) (row_at i k)
+      ++ drop (length (line_bytes i.dtc i.scn (written_number k) (row_at i k))) (mid_of at (length out - at) out))
       → LinesAt i out₀ (put_mid at (length out - at) out part) (at + size) (k + 1)
   unfolding lines_of
   lines_next {size} {part} e =
       let line = line_bytes i.dtc i.scn (written_number k) (row_at i k) in
-      let r = row_is k i.ppl i.pixels in
-      let s : size ≡ length line = e.0 ∙ ap (λ (x : List ℕ). length (line_bytes i.dtc i.scn (written_number k) x)) r in
-      let p : part ≡ line ++ drop (length line) (mid_of at (length out - at) out) =
-      e.1
-      ∙ ap (λ (x : List ℕ). line_bytes i.dtc i.scn (written_number k) x ++ drop (length (line_bytes i.dtc i.scn (written_number k) x)) (mid_of at (length out - at) out)) r in
+      let s : size ≡ length line = e.0 in
+      let p : part ≡ line ++ drop (length line) (mid_of at (length out - at) out) = e.1 in
       let full : length part ≡ length (mid_of at (length out - at) out) =
       omega (
         arith,
@@ -124,13 +116,8 @@ module _ (i : Picture) (out₀ out : List ℕ) (at k : ℕ) (now : LinesAt i out
         same = same_len_mid at (length out - at) out part full ∙ now.same;
       })
 
-  size_within : {size : ℕ} → size ≡ length (line_bytes i.dtc i.scn (written_number k) (lent_row i k)) → at + size ≤ length out
-  size_within e =
-      omega (
-        arith,
-        line_room,
-        e ∙ ap (λ (x : List ℕ). length (line_bytes i.dtc i.scn (written_number k) x)) (row_is k i.ppl i.pixels),
-      )
+  size_within : {size : ℕ} → size ≡ length (line_bytes i.dtc i.scn (written_number k) (row_at i k)) → at + size ≤ length out
+  size_within e = omega (arith, line_room)
 
   pub turn : {number : ℕ} → number ≡ written_number k → Turn i out₀ out at number k
   turn e =

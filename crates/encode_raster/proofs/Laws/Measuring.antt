@@ -1,5 +1,5 @@
 -- The loop that measures the scanlines: what holds before scanline k, from turn to turn and at its end.
-use Rattle.std.specs.Prelude.{◌≡◌, ℕ, ◌+◌, ◌-◌, ◌*◌, ◌^◌, ◌<◌, ◌≤◌, Bool, false, ◌||◌, List, length, take, drop, nat_lt, refl}
+use Rattle.std.specs.Prelude.{◌≡◌, ℕ, ◌+◌, ◌^◌, ◌<◌, ◌≤◌, Bool, false, ◌||◌, length, nat_lt, refl}
 use Rattle.std.proofs.Common.{zero-le, sym, ◌∙◌, ap, add-one, arith}
 use Rattle.std.proofs.Math.Path.{subst⁻¹}
 use Rattle.units.specs.Counts.{n_bytes, words_of_bytes}
@@ -11,7 +11,6 @@ use Rattle.encode_raster.specs.Writing.{any_long}
 use Rattle.encode_answer.specs.Sizes.{most_words}
 use Rattle.encode_raster.specs.Laws.Answer.{head_size, Measured}
 use Rattle.encode_raster.proofs.Laws.Bounds.{length_next, lines_most}
-use Rattle.units.proofs.Laws.Parts.{row_is}
 
 pub record MeasuredAt (i : Picture) (size : ℕ) (long : Bool) (k : ℕ) : Type 0 where
   pub low : k ≤ i.nol
@@ -24,24 +23,22 @@ measure_first i = record { low = zero-le; size_is = refl; long_is = refl }
 
 pub measure_next : (i : Picture) (size : ℕ) (long : Bool) (k : ℕ) → MeasuredAt i size long k → k < i.nol
     → {head body words : ℕ} {long' : Bool} → head ≡ head_size i.scn
-    → body ≡ length (body_bytes i.dtc i.scn (take (k * i.ppl + i.ppl - k * i.ppl) (drop (k * i.ppl) i.pixels)))
+    → body ≡ length (body_bytes i.dtc i.scn (row_at i k))
     → words ≡ (words_of_bytes (n_bytes body)).0 → long' ≡ (long || nat_lt most_words.0 words)
     → MeasuredAt i (size + (head + body)) long' (k + 1)
 unfolding any_long
 measure_next i size long k now more {head} {body} {words} {long'} h b w l =
-    let e : body ≡ length (body_bytes i.dtc i.scn (row_at i k)) =
-    b ∙ ap (λ (r : List ℕ). length (body_bytes i.dtc i.scn r)) (row_is k i.ppl i.pixels) in
     subst⁻¹ (λ (n : ℕ). MeasuredAt i (size + (head + body)) long' n) (add-one k)
     (record {
       low = more;
-      size_is = (λ j. now.size_is j + (h j + e j)) ∙ sym (length_next i k);
-      long_is = l ∙ (λ j. now.long_is j || nat_lt most_words.0 (w j)) ∙ ap (λ (n : ℕ). any_long i k || nat_lt most_words.0 (words_of_bytes (n_bytes n)).0) e;
+      size_is = (λ j. now.size_is j + (h j + b j)) ∙ sym (length_next i k);
+      long_is = l ∙ (λ j. now.long_is j || nat_lt most_words.0 (w j)) ∙ ap (λ (n : ℕ). any_long i k || nat_lt most_words.0 (words_of_bytes (n_bytes n)).0) b;
     })
 
 -- the sum fits
 pub measure_fits : (i : Picture) (size : ℕ) (long : Bool) (k : ℕ) → MeasuredAt i size long k → k < i.nol → i.ppl ≤ most_pixels → i.nol ≤ most_lines
     → {head body : ℕ} → head ≡ head_size i.scn
-    → body ≡ length (body_bytes i.dtc i.scn (take (k * i.ppl + i.ppl - k * i.ppl) (drop (k * i.ppl) i.pixels)))
+    → body ≡ length (body_bytes i.dtc i.scn (row_at i k))
     → size + (head + body) < 2 ^ 64
 measure_fits i size long k now more p n {head} {body} h b =
     let m = measure_next i size long k now more h b refl refl in

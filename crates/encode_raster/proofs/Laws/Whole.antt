@@ -1,19 +1,21 @@
 -- The whole call: what a rejected one answers and leaves, and what one that is not has room for, answers and leaves.
-use Rattle.std.specs.Prelude.{◌≡◌, ℕ, ◌+◌, ◌-◌, ◌≤◌, Bool, cond, List, ◌++◌, length, drop, ◌≢◌, nat_lt}
+use Rattle.std.specs.Prelude.{◌≡◌, ℕ, ◌+◌, ◌-◌, ◌≤◌, Bool, cond, List, ◌++◌, length, drop, ◌≢◌, ◌==◌, nat_lt, refl}
 use Rattle.std.proofs.Math.Path.{sym, ap}
 use Rattle.std.proofs.Common.{◌∙◌, arith, length-append, length-drop, eq-eqb, ne_eqb, le-ltb, ltb-false}
 use borrow.Rule.Slice.PartMut.{mid_of, put_mid}
-use Rattle.units.specs.Counts.{n_bytes}
 use Rattle.units.specs.Rules.{first}
 use Rattle.units.proofs.Laws.Rules.{first_here, first_later, none_holds, NoneHolds}
 use Rattle.encode_header.specs.declared.Job.{Job}
-use Rattle.encode_answer.specs.declared.WriteAnswer.{WriteAnswer}
+use Rattle.refusals.specs.declared.Rejection.{Rejection}
+use Rattle.refusals.specs.Rejections.{number_of}
+use Rattle.refusals.proofs.Laws.Numbers.{numbered}
 use Rattle.encode_header.specs.Picture.{Picture}
 use Rattle.encode_header.specs.Header.{header_bytes, header_size}
 use Rattle.encode_raster.specs.File.{lines_of, file_bytes}
 use Rattle.encode_raster.specs.Writing.{given_rules, picture_rules, writer_rejection, writing, out_after}
 use Rattle.encode_header.specs.Job.{job_picture, picture_of, header_over}
-use Rattle.encode_answer.specs.Answer.{write_numbers}
+use Rattle.encode_answer.specs.Sizes.{WriteNumbers}
+use Rattle.encode_answer.proofs.Laws.Sizes.{answer_number, answer_size}
 use Rattle.encode_answer.proofs.Laws.Call as call
 use Rattle.encode_header.proofs.Laws.Positions.{length-header}
 use Rattle.encode_raster.specs.Laws.Answer.{bare, plan_rules, Within, LinesFit}
@@ -22,21 +24,21 @@ use Rattle.encode_raster.proofs.Laws.Plan.{Planned}
 use Rattle.encode_raster.proofs.Laws.Accepting.{Limits, limits, lines_bare, file-size, rules_bare}
 
 -- The answer and the output of a call.
-abbrev Written : Picture → List ℕ → WriteAnswer → List ℕ → Type 0
-Written i out r now = (write_numbers r ≡ writing i (length out)) × (now ≡ out_after i out)
+abbrev Written : Picture → List ℕ → WriteNumbers → List ℕ → Type 0
+Written i out r now = (r ≡ writing i (length out)) × (now ≡ out_after i out)
 
-refused : (i : Picture) (out : List ℕ) (r : WriteAnswer) → r.number ≡ writer_rejection i (length out) → (r.number ≢ 0) → r.size.0 ≡ 0
+refused : (i : Picture) (out : List ℕ) (r : WriteNumbers) → r.number ≡ writer_rejection i (length out) → (r.number ≢ 0) → r.size ≡ 0
     → Written i out r out
 unfolding writing out_after
 refused i out = call.refused (writer_rejection i (length out)) (file_bytes i) out
 
-accepted : (i : Picture) (out : List ℕ) (r : WriteAnswer) → r.number ≡ writer_rejection i (length out) → r.number ≡ 0
-    → r.size.0 ≡ length (file_bytes i) → (now : List ℕ) → now ≡ file_bytes i ++ drop (length (file_bytes i)) out → Written i out r now
+accepted : (i : Picture) (out : List ℕ) (r : WriteNumbers) → r.number ≡ writer_rejection i (length out) → r.number ≡ 0
+    → r.size ≡ length (file_bytes i) → (now : List ℕ) → now ≡ file_bytes i ++ drop (length (file_bytes i)) out → Written i out r now
 unfolding writing out_after
 accepted i out = call.accepted (writer_rejection i (length out)) (file_bytes i) out
 
 -- What is known behind the header of a file that is written: the scanlines fit what is lent for them, and end the call.
-pub record Ready (j : Job) (table pixels out : List ℕ) (r : WriteAnswer) (start : ℕ) (now : List ℕ) : Type 0 where
+pub record Ready (j : Job) (table pixels out : List ℕ) (r : WriteNumbers) (start : ℕ) (now : List ℕ) : Type 0 where
   pub job_within : Within j pixels
   pub start_within : start ≤ length now
   pub rest_fits : LinesFit (bare j pixels) j.nol (mid_of start (length now - start) now)
@@ -59,41 +61,48 @@ put_file head lines out now part start s e p =
     put_next head lines out now part start (sym s) (e ∙ ap (λ (n : ℕ). head ++ drop n out) (sym s)) p
     ∙ ap (λ (n : ℕ). (head ++ lines) ++ drop n out) (ap (λ (n : ℕ). n + length lines) s ∙ sym (length-append head lines))
 
-module _ (j : Job) (table pixels out : List ℕ) {n : ℕ}
-    (number : n ≡ first (given_rules (job_picture j table pixels))) where
-  pub by_field : (n ≢ 0) → {r : WriteAnswer} → r ≡ record { number = n; size = n_bytes 0 } → Written (job_picture j table pixels) out r out
+module _ (j : Job) (table pixels out : List ℕ) where
+  pub by_field : (y : Rejection) → number_of y ≡ first (given_rules (job_picture j table pixels))
+      → Written (job_picture j table pixels) out (record { number = number_of y; size = 0 }) out
   unfolding writer_rejection
-  by_field some {r} e =
-      let m : r.number ≡ n = ap (λ (x : WriteAnswer). x.number) e in
-      refused (job_picture j table pixels) out r
-      (m ∙ number ∙ sym (first_here (given_rules (job_picture j table pixels)) (picture_rules (job_picture j table pixels) (length out)) (λ z. some (number ∙ z))))
-      (λ z. some (sym m ∙ z))
-      (ap (λ (x : WriteAnswer). x.size.0) e)
+  by_field y e =
+      refused (job_picture j table pixels) out (record { number = number_of y; size = 0 })
+      (e ∙ sym (first_here (given_rules (job_picture j table pixels)) (picture_rules (job_picture j table pixels) (length out)) (λ z. numbered y (e ∙ z))))
+      (numbered y) refl
 
-  module _ (none : n ≡ 0) where
+  module _ (none : 0 ≡ first (given_rules (job_picture j table pixels))) where
     pub within : Limits j.dtc j.ppl j.nol j.slo j.scn (length table) (length pixels)
-    within = limits j.dtc j.ppl j.nol j.slo j.scn (length table) (length pixels) (sym number ∙ none)
+    within = limits j.dtc j.ppl j.nol j.slo j.scn (length table) (length pixels) (sym none)
 
     pub job_within : Within j pixels
     job_within = record { ppl_most = within.fields.ppl_most; nol_most = within.fields.nol_most; rows_there = within.rows_there }
 
-    module _ {head : ℕ} (sized : head ≡ (header_size table).0) {r : WriteAnswer} (planned : Planned j pixels head (length out) r) where
+    module _ {head : ℕ} (sized : head ≡ (header_size table).0) {r : WriteNumbers} (planned : Planned j pixels head (length out) r) where
+      rule_is : r.number ≡ first (plan_rules j pixels head (length out))
+      rule_is = ap (λ (w : WriteNumbers). w.number) planned ∙ answer_number (first (plan_rules j pixels head (length out))) (head + length (lines_of (bare j pixels) j.nol))
+
+      size_is : r.size ≡ cond (r.number == 0) (head + length (lines_of (bare j pixels) j.nol)) 0
+      size_is =
+          ap (λ (w : WriteNumbers). w.size) planned
+          ∙ answer_size (first (plan_rules j pixels head (length out))) (head + length (lines_of (bare j pixels) j.nol))
+          ∙ ap (λ (m : ℕ). cond (m == 0) (head + length (lines_of (bare j pixels) j.nol)) 0) (sym rule_is)
+
       plan_number : r.number ≡ writer_rejection (job_picture j table pixels) (length out)
       unfolding writer_rejection
       plan_number =
-          planned.0
+          rule_is
           ∙ ap (λ (h : ℕ). first (plan_rules j pixels h (length out))) sized
           ∙ ap first (sym (rules_bare j table pixels (length out)))
-          ∙ sym (first_later (given_rules (job_picture j table pixels)) (picture_rules (job_picture j table pixels) (length out)) tt (sym number ∙ none))
+          ∙ sym (first_later (given_rules (job_picture j table pixels)) (picture_rules (job_picture j table pixels) (length out)) tt (sym none))
 
       pub by_plan : (r.number ≢ 0) → Written (job_picture j table pixels) out r out
       by_plan some =
           refused (job_picture j table pixels) out r plan_number some
-          (planned.1 ∙ ap (λ (b : Bool). cond b (head + length (lines_of (bare j pixels) j.nol)) 0) (ne_eqb r.number 0 some))
+          (size_is ∙ ap (λ (b : Bool). cond b (head + length (lines_of (bare j pixels) j.nol)) 0) (ne_eqb r.number 0 some))
 
       module _ (done : r.number ≡ 0) where
         rows : NoneHolds (plan_rules j pixels head (length out))
-        rows = none_holds (plan_rules j pixels head (length out)) tt (sym planned.0 ∙ done)
+        rows = none_holds (plan_rules j pixels head (length out)) tt (sym rule_is ∙ done)
 
         room : head + length (lines_of (bare j pixels) j.nol) ≤ length out
         room = ltb-false (length out) (head + length (lines_of (bare j pixels) j.nol)) rows.1.1.1.0
@@ -118,7 +127,7 @@ module _ (j : Job) (table pixels out : List ℕ) {n : ℕ}
           unfolding file_bytes
           lines_put {part} p =
               accepted (job_picture j table pixels) out r plan_number done
-              (planned.1
+              (size_is
               ∙ ap (λ (b : Bool). cond b (head + length (lines_of (bare j pixels) j.nol)) 0) (eq-eqb r.number 0 done)
               ∙ ap (λ (h : ℕ). h + length (lines_of (bare j pixels) j.nol)) sized
               ∙ sym (file-size j table pixels))

@@ -30,9 +30,6 @@ plan_rules j pixels head room =
     rule 26 (any_above (codec_of j.dtc).highest (take (j.nol * j.ppl) pixels)) ∷
     size_rules j.scn (any_long (bare j pixels) j.nol) (head + length (lines_of (bare j pixels) j.nol)) room
 
-abbrev pub plan_size : ℕ → Job → List ℕ → ℕ → ℕ
-plan_size number j pixels head = cond (number == 0) (head + length (lines_of (bare j pixels) j.nol)) 0
-
 -- the limits by which nothing overflows and every row is there
 pub record Within (j : Job) (pixels : List ℕ) : Type 0 where
   pub ppl_most : j.ppl ≤ most_pixels

@@ -125,7 +125,7 @@ kept rest h = not-lost rest (eqb-true (lost_by rest) 0 (not-false (eqb (lost_by 
 -- the status of a scanline with a header: that of the first part of the table that has one
 module _ (t p number : ℕ) (hd body : List ℕ) where
   -- the rules of a scanline that is not lost
-  abbrev kept_rules : List Rule
+  abbrev pub kept_rules : List Rule
   kept_rules = placement_rules p number hd ++ body_rules t body (body_width p hd)
 
   pub status_lost : (first (lost_rules hd body) ≡ 0 → ⊥) → (reading t p number hd body).status ≡ first (lost_rules hd body)
@@ -133,7 +133,7 @@ module _ (t p number : ℕ) (hd body : List ℕ) where
   status_lost some = first_here (lost_rules hd body) kept_rules some
 
   module _ (none : first (lost_rules hd body) ≡ 0) where
-    past_lost : (reading t p number hd body).status ≡ first kept_rules
+    pub past_lost : (reading t p number hd body).status ≡ first kept_rules
     unfolding reading
     past_lost = first_later (lost_rules hd body) kept_rules tt none
 

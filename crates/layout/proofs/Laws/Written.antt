@@ -9,7 +9,7 @@ use Rattle.units.specs.LittleEndian.{byte_at, u16_at}
 use Rattle.units.specs.Over.{zeros}
 use Rattle.units.specs.Rules.{first}
 use Rattle.units.specs.Words.{word_count}
-use Rattle.codec.specs.declared.Extent.{Extent}
+use Rattle.codec.specs.Extent.{Extent}
 use Rattle.codec.specs.Codec.{row_of}
 use Rattle.codec.specs.Table.{codec_of, body_rules, body_pixels, body_extent, body_bytes}
 use Rattle.codec.proofs.Laws.RoundTrip.{ReadBack}

@@ -83,6 +83,11 @@ module _ (rollover k : ℕ) (past : 65535 ≤ k) where
       let n : (k % 65536 + 1) % 65536 ≡ (k + 1) % 65536 = omega arith in
       n ∙ sym (number_past rollover k past ∙ ap (λ (b : Bool). rolled_number b k) (ne_eqb rollover 1 e))
 
+-- for the code that numbers lines before that and from there on
+pub ruleset line_steps = (number-low, met_elsewhere)
+
+pub ruleset past_steps = (number-from-one, number-from-zero)
+
 -- the number in line 65,536 matters from there on alone
 pub same_wanted : (a b k : ℕ) → (65535 ≤ k → a ≡ b) → wanted_number a k ≡ wanted_number b k
 same_wanted a b k same = go (ltb k 65535) refl

@@ -1,6 +1,6 @@
 -- A call that is not rejected: its buffers have room, and one of them is filled.
 use Rattle.std.specs.Prelude.{ℕ, ◌*◌, ◌≤◌, ◌≡◌, List, ◌++◌, length, drop}
-use borrow.Author.Tests.{eq-eqb, ltb-false, le-ltb}
+use borrow.Author.Tests.{eq-eqb, ne_eqb, ltb-false, le-ltb}
 use Rattle.units.proofs.Laws.Rules.{none_holds}
 use Rattle.orient.specs.Orientation.{turned, turned_back}
 use Rattle.orient.specs.Turning.{turn_rules, turn_rejection, upright_after, pixels_after}
@@ -29,3 +29,13 @@ module _ (slo p n : ℕ) (input output : List ℕ) (taken : turn_rejection slo p
   pub pixels_filled : pixels_after slo p n input output ≡ turned_back slo p n input ++ drop (n * p) output
   unfolding pixels_after
   pixels_filled = rw (eq-eqb _ 0 taken)
+
+-- a call that is rejected changes nothing
+module _ (slo p n : ℕ) (input output : List ℕ) (refused : turn_rejection slo p n (length input) (length output) ≡ 0 → ⊥) where
+  pub upright_kept : output ≡ upright_after slo p n input output
+  unfolding upright_after
+  upright_kept = rw (ne_eqb _ 0 refused)
+
+  pub pixels_kept : output ≡ pixels_after slo p n input output
+  unfolding pixels_after
+  pixels_kept = rw (ne_eqb _ 0 refused)

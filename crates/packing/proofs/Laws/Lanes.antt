@@ -75,3 +75,5 @@ sixteen row s e =
     let l : s ≡ lanes a b c d = omega arith in
     let n : 8 * a + 4 * b + (c + c) + d ≡ number 16 row = omega (arith, number_more row 0, number_more row 1, number_more row 2, number_more row 3, number_more row 4, number_more row 5, number_more row 6, number_more row 7, number_more row 8, number_more row 9, number_more row 10, number_more row 11, number_more row 12, number_more row 13, number_more row 14, number_more row 15) in
     rw (l, lane_a a b c d ha hb hc hd, lane_b a b c d ha hb hc hd, lane_c a b c d ha hb hc hd, lane_d a b c d ha hb hc hd) n
+
+pub ruleset first_pixels = (number_more, number_room)

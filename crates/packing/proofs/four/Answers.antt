@@ -1,12 +1,10 @@
-use Rattle.std.proofs.Common.{◌∙◌}
+use Rattle.std.proofs.Common.{◌+◌, ◌∙◌, arith}
 use Rattle.packing.proofs.Laws.Lanes.{lanes_masked}
 use Rattle.packing.proofs.four.Goals as goal
 
 pub returns : goal.returns
 returns c =
-    let a = c.wide in
-    let b = c.wide-2 in
-    let d = c.wide-3 in
-    let e = c.wide-4 in
-    lanes_masked a.result b.result d.result e.result a.ensures.upper_bound b.ensures.upper_bound d.ensures.upper_bound
-    ∙ rw (a.ensures.value, b.ensures.value, d.ensures.value, e.ensures.value)
+    let at = c.args.at in
+    let small = c.type_inv.row in
+    lanes_masked _ _ _ _ (omega (arith, small at)) (omega (arith, small (at + 1))) (omega (arith, small (at + 2)))
+    ∙ rw (c.from.ensures, c.from-2.ensures, c.from-3.ensures, c.from-4.ensures)

@@ -8,6 +8,7 @@ use Rattle.encode_header.specs.Picture.{Picture}
 use Rattle.encode_raster.specs.File.{file_bytes}
 use Rattle.encode_raster.specs.Writing.{writer_rejection}
 use Rattle.encode_answer.specs.Sizes.{WriteNumbers}
+use Rattle.encode_answer.specs.Answer.{write_numbers}
 use Rattle.encode_raster.proofs.Laws.Call.{writes, begins}
 use Rattle.read_back.specs.Statement.{ReadsBack}
 use Rattle.read_back.proofs.Laws.Law.{reads_back}
@@ -23,9 +24,9 @@ pub given_back : (i : Picture) (out back marks : List ℕ) (r : RoundTrip) (out'
     → GivenBack i back marks r out' back' marks'
 given_back i out back marks r out' back' marks' drs c ok px mk =
     let w = c.wrote ∙ writes i (length out) ok in
-    let z : r.written.number ≡ 0 = ap (λ (x : WriteNumbers). x.number) w in
-    let s : r.written.size.0 ≡ length (file_bytes i) = ap (λ (x : WriteNumbers). x.size) w in
-    let f : written r out' ≡ file_bytes i = begins i out ok r.written.size.0 out' s c.out_is in
+    let z : (write_numbers r.written).number ≡ 0 = ap (λ (x : WriteNumbers). x.number) w in
+    let s : (write_numbers r.written).size ≡ length (file_bytes i) = ap (λ (x : WriteNumbers). x.size) w in
+    let f : written r out' ≡ file_bytes i = begins i out ok (write_numbers r.written).size out' s c.out_is in
     let d = c.read_is z in
     let b : ReadsBack i back marks = reads_back i (length out) back marks drs ok px mk in
     record {

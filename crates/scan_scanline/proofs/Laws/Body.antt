@@ -8,7 +8,7 @@ use Rattle.units.specs.Counts.{bytes_of_words}
 use Rattle.units.specs.Over.{zeros}
 use Rattle.layout.specs.Scanline.{head_of, body_of, following, pixel_offset, row_pixels, reading, headed_reading, open_reading, headed_step, open_step, step_of, reading_of}
 use Rattle.layout.proofs.Laws.Line.{NotLost, not-lost, is_not-lost, no_fault, row_by_status, length-row}
-use Rattle.scan_scanline.specs.declared.Scanline.{Scanline}
+use Rattle.codec.specs.Extent.{Extent}
 use Rattle.scan_scanline.specs.Answer.{IsScan, body_start, first_column}
 
 -- the scanline takes `used` bytes, its body starts at `from`, and the body's first pixel is in this column
@@ -64,7 +64,7 @@ module _ (scn t p number : ℕ) (rest : List ℕ) where
       go false h = rw (ne_eqb (body_extent t rest p).status 0 h)
 
   -- by what a scan answers
-  module _ {r : Scanline} (scan : IsScan (step_of scn t p rest) (reading_of scn t p number rest) r) where
+  module _ {r : Extent} (scan : IsScan (step_of scn t p rest) (reading_of scn t p number rest) r) where
     pub blank-line : (r.status ≡ 0 → ⊥) → (reading_of scn t p number rest).row ≡ zeros p
     blank-line some = blank-row (λ e. some (scan.status ∙ e))
 

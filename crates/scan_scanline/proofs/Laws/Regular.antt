@@ -7,21 +7,17 @@ use native.Mathlib.Omega.{arith}
 use Rattle.std.proofs.Math.ListN.{length, take}
 use Rattle.std.proofs.Math.Seq.{take-take}
 use borrow.Author.Tests.{eq-eqb, le-ltb, eqb-true, leb-true}
-use Rattle.units.specs.Counts.{n_bytes, word_bytes}
+use Rattle.units.specs.Counts.{word_bytes}
 use Rattle.units.specs.LittleEndian.{byte_at, u16_at}
 use Rattle.units.specs.Rules.{first}
 use Rattle.units.proofs.Laws.Rules.{both_true}
 use Rattle.codec.specs.Table.{codec_of, body_rules}
 use Rattle.layout.specs.Scanline.{Reading, Step, head_of, body_of, pixel_offset, body_width, placement_rules, headed_step, open_step, step_of, headed_reading, open_reading, reading_of}
 use Rattle.layout.proofs.Laws.Line.{lost_by, lost-not, not-lost, is_not-lost, head_word, status_body}
-use Rattle.scan_scanline.specs.declared.Scanline.{Scanline}
+use Rattle.codec.specs.Extent.{taken}
 use Rattle.scan_scanline.specs.Answer.{IsScan, body_start, first_column}
 use Rattle.scan_scanline.specs.Regular.{regular_size, is_regular_head, is_regular}
 use Rattle.scan_scanline.proofs.Laws.Body.{good_line}
-
--- a good scanline of n bytes
-abbrev pub good_scan : ℕ → Scanline
-good_scan n = record { status = 0; lost = false; used = n_bytes n }
 
 -- what the tests of a regular header say
 record HeadIs (number size : ℕ) (rest : List ℕ) : Type 0 where
@@ -42,7 +38,7 @@ module _ (p number : ℕ) (rest : List ℕ) (fits : 8 + p + p % 2 ≤ length res
   headed_offset : pixel_offset (head_of rest) ≡ 0
   headed_offset = head_word rest 6 (omega arith) ∙ head.offset
 
-  headed_good : IsScan (headed_step rest) (headed_reading 2 p number rest) (good_scan (8 + p + p % 2))
+  headed_good : IsScan (headed_step rest) (headed_reading 2 p number rest) (taken (8 + p + p % 2))
   unfolding codec_of
   headed_good =
       let w : 4 + word_bytes (u16_at rest 2) ≡ 8 + p + p % 2 = head.words in
@@ -59,7 +55,7 @@ module _ (p number : ℕ) (rest : List ℕ) (fits : 8 + p + p % 2 ≤ length res
       }
 
 -- without
-open_good : (p : ℕ) (rest : List ℕ) → p ≤ length rest → IsScan (open_step 2 p rest) (open_reading 2 p rest) (good_scan p)
+open_good : (p : ℕ) (rest : List ℕ) → p ≤ length rest → IsScan (open_step 2 p rest) (open_reading 2 p rest) (taken p)
 unfolding codec_of
 open_good p rest fits = let t = le-ltb (length rest) p fits in record { status = rw t; lost = rw t; used = rw t }
 
@@ -67,13 +63,13 @@ open_good p rest fits = let t = le-ltb (length rest) p fits in record { status =
 record Scanned (size col : ℕ) (s : Step) (x : Reading) (rest : List ℕ) : Type 0 where
   fits : size ≤ length rest
   column : col ≡ 0
-  scan : IsScan s x (good_scan size)
+  scan : IsScan s x (taken size)
 
 -- what holds of a regular scanline
 pub record Regular (scn p number : ℕ) (rest : List ℕ) : Type 0 where
   pub within : regular_size scn p ≤ length rest
   pub body : body_start scn + p ≤ regular_size scn p
-  pub scan : IsScan (step_of scn 2 p rest) (reading_of scn 2 p number rest) (good_scan (regular_size scn p))
+  pub scan : IsScan (step_of scn 2 p rest) (reading_of scn 2 p number rest) (taken (regular_size scn p))
   pub row_is : (reading_of scn 2 p number rest).row ≡ take p (drop (body_start scn) rest)
 
 module _ (scn p number : ℕ) (rest : List ℕ) (tests : is_regular scn number (regular_size scn p) rest ≡ true) where

@@ -1,7 +1,7 @@
 -- Runs put into a row one after the other, as far as it goes: pixels, or their bytes.
-use Rattle.std.specs.Prelude.{ℕ, zero, suc, ◌+◌, ◌-◌, ◌≤◌, ◌<◌, min, max, ◌≡◌, refl, Bool, true, false, List, [], ◌∷◌, ◌++◌, length, take, drop, replicate, ltb}
+use Rattle.std.specs.Prelude.{ℕ, ◌+◌, ◌-◌, ◌≤◌, ◌<◌, min, max, ◌≡◌, refl, Bool, true, false, List, [], ◌++◌, length, take, drop, replicate, ltb}
 use Rattle.std.proofs.Common.{zero-le, sym, ◌∙◌, ap, append_assoc, append-nil, arith, length-append, length-take, length-drop, drop_of_length-le, take_all, take_at, drop_at, take-take, length-take-le, ltb-true, ltb-false}
-use Rattle.std.proofs.lemmas.List.{length-replicate, replicate-append-replicate, take-append-le}
+use Rattle.std.proofs.lemmas.List.{length-replicate, replicate-append-replicate, take-append-le, drop-replicate}
 use Rattle.std.proofs.lemmas.List.Edits.{sets}
 use Rattle.std.proofs.Math.Seq.{take-append-add, length-sets}
 use borrow.Rule.Slice.PartMut.{mid_of, put_mid}
@@ -13,7 +13,7 @@ use Rattle.units.proofs.Laws.Parts.{tail_is, put_tail}
 use Rattle.units.proofs.Laws.Stores.{length-bytes, bytes-append}
 
 -- as much of `new` as there is room for
-cut : (new old : List ℕ) (m : ℕ) → m ≡ min (length new) (length old) → take m new ++ drop m old ≡ over new old
+pub cut : (new old : List ℕ) (m : ℕ) → m ≡ min (length new) (length old) → take m new ++ drop m old ≡ over new old
 unfolding over
 cut new old m e = go (ltb (length old) (length new)) refl
   where
@@ -34,11 +34,6 @@ part_stored row new part at end h e p =
     rw p
     (ap (λ (l : List ℕ). take at row ++ l) (cut new (drop at row) (end - at) (omega (arith, length-drop at row)))
     ∙ sym (sets_part row at new))
-
-pub take_same : (m n v : ℕ) → m ≤ n → take m (replicate n v) ≡ replicate m v
-take_same zero n v h = refl
-take_same (suc m) zero v h = absurd (omega arith)
-take_same (suc m) (suc n) v h = ap (λ (l : List ℕ). v ∷ l) (take_same m n v (omega arith))
 
 -- A run is put at its place, and then what comes after it.
 pub run_put : (row : List ℕ) (at : ℕ) (new next : List ℕ) {row' : List ℕ} {r : ℕ} → row' ≡ sets row at new → r ≡ min (at + length new) (length row)
@@ -75,11 +70,6 @@ module _ (row : List ℕ) (at n v : ℕ) (rest next whole : List ℕ) (e : rest 
 abbrev pub blank_from : ℕ → List ℕ → List ℕ
 blank_from at row = take at row ++ zeros (length row - at)
 
-drop_same : (m n v : ℕ) → drop m (replicate n v) ≡ replicate (n - m) v
-drop_same zero n v = let e : n - 0 ≡ n = omega arith in rw e
-drop_same (suc m) zero v = let e : 0 - suc m ≡ 0 = omega arith in rw e
-drop_same (suc m) (suc n) v = let e : suc n - suc m ≡ n - m = omega arith in rw e (drop_same m n v)
-
 -- the first elements of what is put over a buffer
 take-over : (new old : List ℕ) (m : ℕ) → m ≤ length new → m ≤ length old → take m (over new old) ≡ take m new
 unfolding over
@@ -108,7 +98,7 @@ module _ (row run more : List ℕ) (at : ℕ) (within : at ≤ length row) where
       let z : length (zeros k) ≡ k = length-replicate k 0 in
       sets_part (blank_from at row) at run
       ∙ (λ i. take_at (take at row) (zeros k) at l i ++ over run (drop_at (take at row) (zeros k) at l i))
-      ∙ ap (λ (x : List ℕ). take at row ++ x) (sym (cut run (zeros k) m (omega arith)) ∙ ap (λ (x : List ℕ). take m run ++ x) (drop_same m k 0))
+      ∙ ap (λ (x : List ℕ). take at row ++ x) (sym (cut run (zeros k) m (omega arith)) ∙ ap (λ (x : List ℕ). take m run ++ x) (drop-replicate m k 0))
       ∙ sym (append_assoc (take at row) (take m run) (zeros (k - m)))
 
   pub blank-run : {row' : List ℕ} {r : ℕ} → row' ≡ sets row at (run ++ more) → r ≡ min (at + length run) (length row)

@@ -1,8 +1,8 @@
-use Rattle.std.proofs.Common.{ℕ, ◌+◌, ◌*◌, ◌/◌, ◌%◌, ◌<◌, ◌≡◌, refl, sym, ◌∙◌, ap, List, [], ◌∷◌, ◌++◌, arith, length, replicate, length-append, take_all}
+use Rattle.std.proofs.Common.{ℕ, ◌+◌, ◌*◌, ◌/◌, ◌%◌, ◌<◌, ◌≡◌, refl, sym, ◌∙◌, ap, List, [], ◌∷◌, ◌++◌, arith, length, replicate, length-append}
 use lib.Seq.{sets}
 use Rattle.units.specs.LittleEndian.{u32_bytes}
 use Rattle.units.specs.Words.{words_to_bytes}
-use Rattle.units.proofs.Laws.Over.{sets-append, sets_over, over_full}
+use Rattle.units.proofs.Laws.Over.{sets-append, sets_over, over_all}
 use Rattle.units.proofs.Laws.Stores.{length-bytes}
 use Rattle.slices.proofs.fill_eight.Goals as goal
 
@@ -32,10 +32,9 @@ four-parts out w l =
 -- eight pixels fill sixteen bytes
 eight-fill : (out : List ℕ) (v : ℕ) → length out ≡ 16 → sets out 0 (words_to_bytes (replicate 8 v)) ≡ words_to_bytes (replicate 8 v)
 eight-fill out v l =
-    let all : length (words_to_bytes (replicate 8 v)) ≡ 16 = length-bytes (replicate 8 v) in
-    sets_over (words_to_bytes (replicate 8 v)) out
-    ∙ over_full (words_to_bytes (replicate 8 v)) out (omega arith)
-    ∙ take_all (length out) (words_to_bytes (replicate 8 v)) (omega arith)
+    let new = words_to_bytes (replicate 8 v) in
+    let all : length new ≡ 16 = length-bytes (replicate 8 v) in
+    sets_over new out ∙ over_all new out (omega arith)
 
 -- eight pixels, stored two at a time
 module _ (out once twice thrice all : List ℕ) (v a b c d : ℕ) where

@@ -1,11 +1,7 @@
-use Rattle.std.proofs.Common.{◌-◌, ◌≤◌, ◌≡◌, length, drop}
-use lib.Seq.{sets}
+use Rattle.std.proofs.Common.{◌≡◌, take}
 use Rattle.units.specs.LittleEndian.{low_bytes}
 use Rattle.units.specs.Over.{over}
 use Rattle.slices.proofs.narrow.Given as goal
 
 abbrev pub invariant-loop-i : goal.invariant-loop-i
-invariant-loop-i l = (l.i ≤ l.n) × (length l.to ≡ length l.initial.to) × (sets l.to l.i (drop l.i (low_bytes l.from)) ≡ over (low_bytes l.from) l.initial.to)
-
-abbrev pub decreases-loop-i : goal.decreases-loop-i
-decreases-loop-i l = l.n - l.i
+invariant-loop-i l = l.to ≡ over (take l.i (low_bytes l.from)) l.initial.to

@@ -8,7 +8,7 @@ use mathlib.Core.List.{List, [], ◌++◌}
 use Rattle.std.proofs.Math.ListN.{length}
 use Rattle.units.specs.Counts.{bytes_of_words}
 use Rattle.units.specs.Rules.{first}
-use Rattle.codec.specs.declared.Extent.{Extent}
+use Rattle.codec.specs.Extent.{Extent}
 use Rattle.codec.specs.Table.{body_extent}
 use Rattle.codec.proofs.Laws.Lawful.{lawful}
 use Rattle.layout.specs.Scanline.{head_of, body_of, following, body_size, head_rules, is_lost, headed_step, open_step, step_of, headed_reading, open_reading, reading_of}

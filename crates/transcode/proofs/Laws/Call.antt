@@ -5,8 +5,7 @@ use borrow.Author.Tests.{ltb-false}
 use Rattle.units.proofs.Laws.Rules.{NoneHolds, none_holds, both_none, first_from}
 use Rattle.header.specs.Rejections.{rules_to22}
 use Rattle.layout.specs.Chain.{sheet_of}
-use Rattle.encode_answer.specs.declared.WriteAnswer.{WriteAnswer}
-use Rattle.encode_answer.specs.Answer.{write_numbers}
+use Rattle.encode_answer.specs.Sizes.{WriteNumbers}
 use Rattle.encode_answer.proofs.Laws.Call as call
 use Rattle.transcode_parts.specs.Rules.{unmoved_rules}
 use Rattle.transcode.specs.File.{transcoded}
@@ -26,7 +25,7 @@ module _ (f : List ℕ) (room : ℕ) where
       let r = sheet_of f in
       first_from 10 (rules_to22 f ++ (unmoved_rules r.data_type ++ line_rules r (length (transcoded f)) room)) tt h
 
-  module _ (a : WriteAnswer) (e : write_numbers a ≡ transcoding f room) where
+  module _ (a : WriteNumbers) (e : a ≡ transcoding f room) where
     pub number_is : a.number ≡ transcode_rejection f room
     unfolding transcoding
     number_is = call.number_is (transcode_rejection f room) (transcoded f) (transcoded f) a e
@@ -38,14 +37,14 @@ module _ (f : List ℕ) (room : ℕ) where
       ok : transcode_rejection f room ≡ 0
       ok = sym number_is ∙ z
 
-      pub size_is : a.size.0 ≡ length (transcoded f)
+      pub size_is : a.size ≡ length (transcoded f)
       unfolding transcoding
       size_is = call.size_is (transcode_rejection f room) (transcoded f) (transcoded f) a e z
 
-      pub size_fits : a.size.0 ≤ room
+      pub size_fits : a.size ≤ room
       size_fits = rw size_is (ltb-false room (length (transcoded f)) (none ok).1.1.1.1.0)
 
-      pub size_most : a.size.0 ≤ 2147483647
+      pub size_most : a.size ≤ 2147483647
       size_most = rw size_is (ltb-false 2147483647 (length (transcoded f)) (none ok).1.1.1.0)
 
 module _ (f out : List ℕ) where

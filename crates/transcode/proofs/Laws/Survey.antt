@@ -1,39 +1,28 @@
--- The loop that surveys the scanlines: what holds before scanline k, at its start, from turn to turn, where one is refused, and at its end.
-use Rattle.std.specs.Prelude.{ℕ, ◌+◌, ◌*◌, ◌≤◌, ◌<◌, ◌≡◌, refl, Bool, true, false, not, cond, ◌&&◌, ◌||◌, List, length, eqb, ltb}
+-- The loop that surveys the scanlines: what holds before scanline k, at its start, from turn to turn, and where one is refused.
+use Rattle.std.specs.Prelude.{ℕ, ◌+◌, ◌*◌, ◌≤◌, ◌<◌, ◌≡◌, Bool, true, false, not, ◌&&◌, ◌||◌, List, length, eqb, ltb}
 use Rattle.std.proofs.Common.{zero-le, sym, ◌∙◌, ap, ap₂, subst, add-one, arith, eq-eqb, ne_eqb}
 use Rattle.std.proofs.Math.Path.{subst⁻¹}
 use Rattle.std.proofs.lemmas.Bool.{false≢true}
+use Rattle.refusals.specs.declared.Fault.{Fault}
+use Rattle.refusals.specs.Faults.{mark_of}
+use Rattle.refusals.proofs.Laws.Numbers.{marked}
 use Rattle.units.specs.Counts.{n_bytes, words_of_bytes}
-use Rattle.units.specs.Rules.{first}
 use Rattle.units.specs.Words.{word_count}
 use Rattle.codec.specs.Table.{body_bytes}
 use Rattle.numbering.specs.Numbering.{wanted_number, rollover_met}
-use Rattle.layout.specs.Scanline.{head_of, pixel_offset, Reading, reading_of}
+use Rattle.layout.specs.Scanline.{pixel_offset, Reading, reading_of}
 use Rattle.layout.specs.Chain.{Raster, start, reached, number_of, reading_at}
 use Rattle.layout.proofs.Laws.Chain.{start_zero, reached-zero, length-reading}
 use Rattle.layout.proofs.Laws.Line.{length-row}
 use Rattle.layout.proofs.Laws.Numbering.{RolloverKnown, number_met, known_next, known_first}
-use Rattle.scan_scanline.specs.Answer.{body_start, first_column}
-use Rattle.encode_answer.specs.declared.WriteAnswer.{WriteAnswer}
-use Rattle.encode_answer.specs.Sizes.{most_words, answer_by}
-use Rattle.encode_answer.specs.Answer.{write_numbers}
+use Rattle.scan_scanline.specs.Answer.{body_start}
+use Rattle.encode_answer.specs.Sizes.{most_words}
 use Rattle.transcode_parts.specs.Headers.{other_type}
-use Rattle.transcode_parts.specs.Rules.{found_rules}
 use Rattle.transcode.specs.declared.LineSurvey.{LineSurvey}
-use Rattle.transcode.specs.declared.Survey.{Survey}
 use Rattle.transcode.specs.File.{new_lines}
-use Rattle.transcode.specs.Transcoding.{any_line, is_refused, is_partway, is_long, line_rules}
-use Rattle.transcode.specs.Laws.Answer.{old_row, new_size, Ready, IsSurvey, Surveyed}
+use Rattle.transcode.specs.Transcoding.{any_line, is_refused, is_partway, is_long}
+use Rattle.transcode.specs.Laws.Answer.{old_row, Ready, IsSurvey, Surveyed}
 use Rattle.transcode.proofs.Laws.Lines.{line_some, line_next, line_first, lines_first, lent, lent_is, reading_is, head_is, next_within, reached_next, start_next, length-line, line_most}
-
--- a first column that is not 0
-pub partway_by : (scn : ℕ) (rest : List ℕ) {column : ℕ} → column ≡ first_column scn rest
-    → not (eqb column 0) ≡ (eqb scn 1 && not (eqb (pixel_offset (head_of rest)) 0))
-partway_by scn rest e = ap (λ (n : ℕ). not (eqb n 0)) e ∙ go (eqb scn 1)
-  where
-    go : (b : Bool) → not (eqb (cond b (pixel_offset (head_of rest)) 0) 0) ≡ (b && not (eqb (pixel_offset (head_of rest)) 0))
-    go true = refl
-    go false = refl
 
 pub record SurveyAt (r : Raster) (at rollover : ℕ) (partway long : Bool) (size : ℕ) (row : List ℕ) (k : ℕ) : Type 0 where
   pub low : k ≤ r.nol
@@ -48,8 +37,8 @@ pub record SurveyAt (r : Raster) (at rollover : ℕ) (partway long : Bool) (size
   pub size_most : size ≤ 262152 * k
   pub wide : length row ≡ r.ppl
 
-pub survey_first : (r : Raster) (row : List ℕ) → Ready r row → SurveyAt r r.data_start 0 false false 0 row 0
-survey_first r row ready =
+pub survey_first : {r : Raster} {row : List ℕ} → Ready r row → SurveyAt r r.data_start 0 false false 0 row 0
+survey_first {r} {row} ready =
     record {
       low = zero-le;
       here = sym (start_zero r);
@@ -64,33 +53,30 @@ survey_first r row ready =
       wide = ready.wide;
     }
 
-module _ (r : Raster) (at rollover : ℕ) (partway long : Bool) (size : ℕ) (row : List ℕ) (k : ℕ) (now : SurveyAt r at rollover partway long size row k)
-    (more : k < r.nol) {s : LineSurvey} {to met number : ℕ} (typed : to ≡ other_type r.data_type)
-    (meets : met ≡ rollover_met rollover k (lent r k at now.here now.there)) (wanted : number ≡ wanted_number met k)
-    (line : IsSurvey r.scn r.data_type (length row) number to (lent r k at now.here now.there) s) where
+module _ {r : Raster} {at rollover : ℕ} {partway long : Bool} {size : ℕ} {row : List ℕ} {k : ℕ} (now : SurveyAt r at rollover partway long size row k)
+    (more : k < r.nol) {to met number : ℕ} (typed : to ≡ other_type r.data_type)
+    (meets : met ≡ rollover_met rollover k (lent r k at now.here now.there)) (wanted : number ≡ wanted_number met k) where
   abbrev rest : List ℕ
   rest = lent r k at now.here now.there
 
   numbered : number ≡ number_of r k
   numbered = number_met r k rollover now.known now.there (lent_is r k at now.here now.there) meets wanted
 
-  -- by the raster's width and the other type
-  surveyed : IsSurvey r.scn r.data_type r.ppl number (other_type r.data_type) rest s
-  surveyed =
-      subst (λ (p : ℕ). IsSurvey r.scn r.data_type p number (other_type r.data_type) rest s) now.wide
-      (subst (λ (t : ℕ). IsSurvey r.scn r.data_type (length row) number t rest s) typed line)
-
-  status_is : s.status ≡ (reading_at r k).status
-  status_is = surveyed.status ∙ sym (ap (λ (x : Reading). x.status) (reading_is r k at now.here now.there numbered))
+  -- what is read, by the row's width, is the raster's scanline
+  reads : reading_of r.scn r.data_type (length row) number rest ≡ reading_at r k
+  reads =
+      ap (λ (p : ℕ). reading_of r.scn r.data_type p number rest) now.wide ∙ sym (reading_is r k at now.here now.there numbered)
 
   -- the row has its width still
   pub row_kept : {row' : List ℕ} → row' ≡ old_row r.scn r.data_type (length row) number rest → length row' ≡ r.ppl
   row_kept e = ap length e ∙ length-row r.scn r.data_type (length row) rest number ∙ now.wide
 
   -- it is refused, and so the sheet is
-  pub survey_refused : (s.status ≡ 0 → ⊥) → Surveyed r (record { refused = true; partway = partway; long = long; size = n_bytes size })
-  survey_refused some =
-      let has : is_refused r k ≡ true = ap not (ne_eqb (reading_at r k).status 0 (λ e. some (status_is ∙ e))) in
+  pub survey_refused : (f : Fault) → mark_of f ≡ (reading_of r.scn r.data_type (length row) number rest).status
+      → Surveyed r (record { refused = true; partway = partway; long = long; size = n_bytes size })
+  survey_refused f e =
+      let some : (reading_at r k).status ≡ 0 → ⊥ = λ z. marked f (e ∙ ap (λ (x : Reading). x.status) reads ∙ z) in
+      let has : is_refused r k ≡ true = ap not (ne_eqb (reading_at r k).status 0 some) in
       record {
         refused = sym (line_some (is_refused r) r.nol k more has);
         partway = λ e. absurd (false≢true (sym e));
@@ -99,9 +85,16 @@ module _ (r : Raster) (at rollover : ℕ) (partway long : Bool) (size : ℕ) (ro
         most = omega (arith, now.size_most);
       }
 
-  module _ (none : s.status ≡ 0) where
+  module _ (good : 0 ≡ (reading_of r.scn r.data_type (length row) number rest).status) {s : LineSurvey}
+      (line : IsSurvey r.scn r.data_type (length row) number to rest s) where
     good_here : (reading_at r k).status ≡ 0
-    good_here = sym status_is ∙ none
+    good_here = sym (good ∙ ap (λ (x : Reading). x.status) reads)
+
+    -- by the raster's width and the other type
+    surveyed : IsSurvey r.scn r.data_type r.ppl number (other_type r.data_type) rest s
+    surveyed =
+        subst (λ (p : ℕ). IsSurvey r.scn r.data_type p number (other_type r.data_type) rest s) now.wide
+        (subst (λ (t : ℕ). IsSurvey r.scn r.data_type (length row) number t rest s) typed line)
 
     pub used_within : at + s.used.0 ≤ length r.bytes
     used_within = omega (arith, surveyed.used, next_within r k at now.here now.there now.within)
@@ -143,31 +136,3 @@ module _ (r : Raster) (at rollover : ℕ) (partway long : Bool) (size : ℕ) (ro
           size_most = omega (arith, now.size_most, body_most p h);
           wide = row_kept l;
         })
-
--- none is refused
-pub survey_done : (r : Raster) (at rollover : ℕ) (partway long : Bool) (size : ℕ) (row : List ℕ) (k : ℕ) → SurveyAt r at rollover partway long size row k → k ≡ r.nol
-    → Surveyed r (record { refused = false; partway = partway; long = long; size = n_bytes size })
-survey_done r at rollover partway long size row k now e =
-    record {
-      refused = sym (ap (any_line (is_refused r)) (sym e) ∙ now.good);
-      partway = λ z. now.partway_is ∙ ap (any_line (is_partway r)) e;
-      long = λ z. now.long_is ∙ ap (any_line (is_long r)) e;
-      size = λ z. now.size_is ∙ ap (λ (n : ℕ). length (new_lines r n)) e;
-      most = omega (arith, now.size_most);
-    }
-
--- The answer by a survey. Where a scanline is refused the rest of it does not matter.
-pub planned : (r : Raster) (room : ℕ) {s : Survey} → Surveyed r s → {a : WriteAnswer}
-    → (let size = r.data_start + s.size.0 in
-    write_numbers a ≡ answer_by (first (found_rules r.scn s.refused s.partway s.long size room)) size)
-    → write_numbers a ≡ answer_by (first (line_rules r (new_size r) room)) (new_size r)
-planned r room {s} surveyed e = e ∙ go s.refused refl
-  where
-    go : (b : Bool) → s.refused ≡ b
-        → (let size = r.data_start + s.size.0 in
-        answer_by (first (found_rules r.scn s.refused s.partway s.long size room)) size ≡ answer_by (first (line_rules r (new_size r) room)) (new_size r))
-    go true t = simp (t, sym surveyed.refused ∙ t)
-    go false t =
-        λ j.
-        let size = r.data_start + surveyed.size t j in
-        answer_by (first (found_rules r.scn (surveyed.refused j) (surveyed.partway t j) (surveyed.long t j) size room)) size

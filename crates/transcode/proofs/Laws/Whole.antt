@@ -1,11 +1,14 @@
 -- The whole call: what a rejected one answers and leaves, and what one that is not has room for, answers and leaves.
-use Rattle.std.specs.Prelude.{ℕ, ◌+◌, ◌-◌, ◌≤◌, ◌≡◌, refl, List, [], ◌++◌, take}
+use Rattle.std.specs.Prelude.{ℕ, ◌+◌, ◌-◌, ◌≤◌, ◌≡◌, refl, List, [], ◌++◌, take, Result, Ok, Err}
+use Rattle.std.specs.Result.{IsErrAnd}
 use Rattle.std.proofs.Math.Path.{sym, ap, subst⁻¹}
 use Rattle.std.proofs.Common.{◌∙◌, subst, append_assoc, arith, ltb-false, ne_eqb, length-drop, length-take-le}
 use borrow.Rule.Slice.PartMut.{mid_of, put_mid}
 use Rattle.std.proofs.Math.ListN.{length, drop, length-append}
 use Rattle.std.proofs.Math.Seq.{length-sets}
-use Rattle.units.specs.Counts.{n_bytes}
+use Rattle.refusals.specs.declared.Rejection.{Rejection}
+use Rattle.refusals.specs.Rejections.{number_of}
+use Rattle.units.specs.declared.Bytes.{Bytes}
 use Rattle.units.specs.Over.{over}
 use Rattle.units.specs.Rules.{Rule, first}
 use Rattle.units.specs.Words.{two_bytes}
@@ -16,9 +19,8 @@ use Rattle.header.specs.Rejections.{rules_to22, rejection_to22}
 use Rattle.header.proofs.Laws.Accepted.{Accepted, accepted}
 use Rattle.layout.specs.declared.RasterLayout.{RasterLayout}
 use Rattle.layout.specs.Chain.{Raster, sheet_of, raster_of}
-use Rattle.encode_answer.specs.declared.WriteAnswer.{WriteAnswer}
-use Rattle.encode_answer.specs.Sizes.{answer_by}
 use Rattle.encode_answer.specs.Answer.{write_numbers}
+use Rattle.encode_answer.specs.Sizes.{WriteNumbers, answer_by}
 use Rattle.encode_answer.proofs.Laws.Call as call
 use Rattle.transcode_parts.specs.Headers.{other_type, with_type}
 use Rattle.transcode_parts.specs.Rules.{unmoved_rules}
@@ -27,12 +29,17 @@ use Rattle.transcode.specs.Transcoding.{line_rules, transcode_rejection, transco
 use Rattle.transcode.specs.Laws.Answer.{new_size, Movable, Ready, LinesFit}
 use Rattle.transcode.proofs.Laws.Writing.{word_first}
 
+-- what a `?` passes on
+pub passed : (r : Result Bytes Rejection) (y : Rejection) → IsErrAnd r (λ z. z ≡ y) → write_numbers r ≡ record { number = number_of y; size = 0 }
+passed (Ok x) y e = elim e [ ]
+passed (Err z) y e = ap (λ (x : Rejection). record { number = number_of x; size = 0 }) e
+
 -- the answer and the output of a call
-abbrev Transcoded : List ℕ → List ℕ → WriteAnswer → List ℕ → Type 0
-Transcoded f out a now = (write_numbers a ≡ transcoding f (length out)) × (now ≡ out_transcoded f out)
+abbrev Transcoded : List ℕ → List ℕ → WriteNumbers → List ℕ → Type 0
+Transcoded f out a now = (a ≡ transcoding f (length out)) × (now ≡ out_transcoded f out)
 
 -- What is known when the header of a raster r is carried over: the scanlines fit what is lent for them, and end the call.
-pub record Carried (r : Raster) (f out : List ℕ) (a : WriteAnswer) (now : List ℕ) : Type 0 where
+pub record Carried (r : Raster) (f out : List ℕ) (a : WriteNumbers) (now : List ℕ) : Type 0 where
   pub start_within : r.data_start ≤ length now
   pub rest_fits : LinesFit r (mid_of r.data_start (length now - r.data_start) now)
   pub by_lines : {part : List ℕ}
@@ -54,14 +61,11 @@ module _ (f out : List ℕ) {n : ℕ} (number : n ≡ first (rules_to22 f ++ unm
   rules_are = ap first (sym (append_assoc (rules_to22 f) (unmoved_rules r.data_type) behind))
 
   -- rejected by the file
-  pub by_file : (n ≡ 0 → ⊥) → {a : WriteAnswer} → a ≡ record { number = n; size = n_bytes 0 } → Transcoded f out a out
+  pub by_file : (n ≡ 0 → ⊥) → Transcoded f out (record { number = n; size = 0 }) out
   unfolding transcoding out_transcoded
-  by_file some {a} e =
-      let m : a.number ≡ n = ap (λ (x : WriteAnswer). x.number) e in
-      call.refused (transcode_rejection f (length out)) (transcoded f) out a
-      (m ∙ number ∙ sym (rules_are ∙ first_here front behind (λ z. some (number ∙ z))))
-      (λ z. some (sym m ∙ z))
-      (ap (λ (x : WriteAnswer). x.size.0) e)
+  by_file some =
+      call.refused (transcode_rejection f (length out)) (transcoded f) out (record { number = n; size = 0 })
+      (number ∙ sym (rules_are ∙ first_here front behind (λ z. some (number ∙ z)))) some refl
 
   module _ (none : n ≡ 0) where
     file_ok : rejection_to22 f ≡ 0
@@ -92,8 +96,8 @@ module _ (f out : List ℕ) {n : ℕ} (number : n ≡ first (rules_to22 f ++ unm
         ∙ first_later front behind tt (sym number ∙ none)
         ∙ ap (λ (m : ℕ). first (line_rules r m (length out))) size_is
 
-    module _ {a : WriteAnswer} (planned : write_numbers a ≡ answer_by (first (line_rules r (new_size r) (length out))) (new_size r)) where
-      answers : write_numbers a ≡ answer_by (transcode_rejection f (length out)) (length (transcoded f))
+    module _ {a : WriteNumbers} (planned : a ≡ answer_by (first (line_rules r (new_size r) (length out))) (new_size r)) where
+      answers : a ≡ answer_by (transcode_rejection f (length out)) (length (transcoded f))
       answers = planned ∙ (λ j. answer_by (sym rejection_is j) (sym size_is j))
 
       answered : a.number ≡ transcode_rejection f (length out)
@@ -153,32 +157,22 @@ module _ (f out : List ℕ) {n : ℕ} (number : n ≡ first (rules_to22 f ++ unm
               }
 
 -- The same of a layout that is the sheet's.
-pub width : (f : List ℕ) {n : ℕ} → n ≡ first (rules_to22 f ++ unmoved_rules (sheet_of f).data_type) → n ≡ 0 → {l : RasterLayout} → raster_of l f ≡ sheet_of f
-    → l.ppl ≤ 65535
-width f number none laid = rw (ap (λ (r : Raster). r.ppl) laid) (ppl_most f [] number none)
-
-module _ (f : List ℕ) (l : RasterLayout) (row : List ℕ) (m : Movable f l row) where
-  pub layout_ready : (row' : List ℕ) → length row' ≡ length row → Ready (raster_of l f) row'
+module _ {f : List ℕ} {l : RasterLayout} {row : List ℕ} (m : Movable f l row) where
+  pub layout_ready : (row' : List ℕ) → length row' ≡ length row → Ready (raster_of l) row'
   layout_ready row' e =
       subst⁻¹ (λ (r : Raster). Ready r row') m.laid
       (ready f [] (sym m.accepted) refl row' (e ∙ m.wide ∙ ap (λ (r : Raster). r.ppl) m.laid))
 
-  start_inside : l.start ≤ length f
-  start_inside = (layout_ready row refl).starts
-
-  pub header-length : l.start ≡ length (take l.start f)
-  header-length = sym (length-take-le l.start f start_inside)
-
-  module _ (out : List ℕ) {a : WriteAnswer}
-      (planned : write_numbers a ≡ answer_by (first (line_rules (raster_of l f) (new_size (raster_of l f)) (length out))) (new_size (raster_of l f))) where
-    planned_so : write_numbers a ≡ answer_by (first (line_rules (sheet_of f) (new_size (sheet_of f)) (length out))) (new_size (sheet_of f))
-    planned_so = subst (λ (r : Raster). write_numbers a ≡ answer_by (first (line_rules r (new_size r) (length out))) (new_size r)) m.laid planned
+  module _ (out : List ℕ) {a : WriteNumbers}
+      (planned : a ≡ answer_by (first (line_rules (raster_of l) (new_size (raster_of l)) (length out))) (new_size (raster_of l))) where
+    planned_so : a ≡ answer_by (first (line_rules (sheet_of f) (new_size (sheet_of f)) (length out))) (new_size (sheet_of f))
+    planned_so = subst (λ (r : Raster). a ≡ answer_by (first (line_rules r (new_size r) (length out))) (new_size r)) m.laid planned
 
     pub not_planned : (a.number ≡ 0 → ⊥) → Transcoded f out a out
     not_planned some = by_plan f out (sym m.accepted) refl planned_so some
 
     pub header_carried : a.number ≡ 0 → {now : List ℕ} {to : ℕ} → to ≡ other_type l.dtc → now ≡ with_type (over (take l.start f) out) to
-        → Carried (raster_of l f) f out a now
+        → Carried (raster_of l) f out a now
     header_carried done {now} typed put =
         subst⁻¹ (λ (r : Raster). Carried r f out a now) m.laid
         (carried f out (sym m.accepted) refl planned_so done

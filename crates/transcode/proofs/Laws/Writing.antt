@@ -1,5 +1,5 @@
--- One new scanline put at the start of an output; and the loop that writes them: what holds before scanline k, at its start, from turn to
--- turn and at its end.
+-- One new scanline put at the start of an output; and the loop that writes them: what holds before scanline k, at its start and from
+-- turn to turn.
 use Rattle.std.specs.Prelude.{ℕ, zero, suc, ◌+◌, ◌-◌, ◌/◌, ◌%◌, ◌≤◌, ◌<◌, min, ◌≡◌, refl, true, false, List, ◌++◌, length, take, drop, set, eqb}
 use Rattle.std.proofs.Common.{zero-le, sym, ◌∙◌, ap, append_assoc, ⊎_elim, eq-or-lt_of_le, add-one, arith, eq-eqb, ne_eqb, eqb-true, ltb-false, length-append, length-drop, length-set, drop-drop, drop_at, length-take-le}
 use Rattle.std.proofs.Math.Path.{subst⁻¹}
@@ -113,8 +113,8 @@ pub record WrittenAt (r : Raster) (from rollover : ℕ) (row out₀ out : List �
   pub out_is : out ≡ new_lines r k ++ drop at out₀
   pub same : length out ≡ length out₀
 
-pub write_first : (r : Raster) (row out : List ℕ) → Ready r row → WrittenAt r r.data_start 0 row out out 0 0
-write_first r row out ready =
+pub write_first : {r : Raster} {row : List ℕ} (out : List ℕ) → Ready r row → WrittenAt r r.data_start 0 row out out 0 0
+write_first {r} {row} out ready =
     record {
       low = zero-le;
       here = sym (start_zero r);
@@ -127,7 +127,7 @@ write_first r row out ready =
       same = refl;
     }
 
-module _ (r : Raster) (from rollover : ℕ) (row out₀ out : List ℕ) (at k : ℕ) (now : WrittenAt r from rollover row out₀ out at k) (more : k < r.nol)
+module _ {r : Raster} {from rollover : ℕ} {row out₀ out : List ℕ} {at k : ℕ} (now : WrittenAt r from rollover row out₀ out at k) (more : k < r.nol)
     (fit : LinesFit r out₀) {to met number : ℕ} (typed : to ≡ other_type r.data_type)
     (meets : met ≡ rollover_met rollover k (lent r k from now.here now.there)) (wanted : number ≡ wanted_number met k) where
   abbrev rest : List ℕ
@@ -165,9 +165,6 @@ module _ (r : Raster) (from rollover : ℕ) (row out₀ out : List ℕ) (at k : 
         fit.room,
       )
 
-  pub at_within : at ≤ length out
-  at_within = omega (arith, line_room)
-
   tail_length : length (mid_of at (length out - at) out) ≡ length out - at
   tail_length = ap length (tail_is at out) ∙ length-drop at out
 
@@ -197,9 +194,6 @@ module _ (r : Raster) (from rollover : ℕ) (row out₀ out : List ℕ) (at k : 
 
     pub used_within : from + s.used.0 ≤ length r.bytes
     used_within = omega (arith, used_is, next_within r k from now.here now.there now.within)
-
-    pub size_within : at + s.size.0 ≤ length out
-    size_within = omega (arith, written.size, ap length line_here, line_room)
 
     -- one scanline more
     pub write_next : {row' : List ℕ} → row' ≡ old
@@ -232,11 +226,3 @@ module _ (r : Raster) (from rollover : ℕ) (row out₀ out : List ℕ) (at k : 
               ∙ (λ j. sym (lines_next r k) j ++ drop (at + sym size j) out₀);
           same = same_len_mid at (length out - at) out part full ∙ now.same;
         })
-
--- all are written
-pub write_done : (r : Raster) (from rollover : ℕ) (row out₀ out : List ℕ) (at k : ℕ) → WrittenAt r from rollover row out₀ out at k → k ≡ r.nol
-    → out ≡ new_lines r r.nol ++ drop (length (new_lines r r.nol)) out₀
-write_done r from rollover row out₀ out at k now e =
-    now.out_is
-    ∙ ap (λ (m : ℕ). new_lines r k ++ drop m out₀) now.at_is
-    ∙ ap (λ (m : ℕ). new_lines r m ++ drop (length (new_lines r m)) out₀) e

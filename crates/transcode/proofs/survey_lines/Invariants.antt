@@ -1,11 +1,7 @@
-use Rattle.std.proofs.Common.{◌-◌}
 use Rattle.layout.specs.Chain.{raster_of}
 use Rattle.transcode.proofs.Laws.Survey.{SurveyAt}
 use Rattle.transcode.proofs.survey_lines.Given as goal
 
 abbrev pub invariant-loop-k : goal.invariant-loop-k
 invariant-loop-k l =
-    SurveyAt (raster_of l.l l.bytes) l.at l.rollover l.partway l.long l.size l.row l.k
-
-abbrev pub decreases-loop-k : goal.decreases-loop-k
-decreases-loop-k l = l.n - l.k
+    SurveyAt (raster_of l.l) l.at l.rollover l.partway l.long l.size l.row l.k

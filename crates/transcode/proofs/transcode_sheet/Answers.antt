@@ -1,38 +1,26 @@
-use Rattle.std.proofs.Common.{refl, arith}
-use Rattle.layout.specs.Chain.{raster_of}
-use Rattle.transcode.proofs.Laws.Whole.{Carried, layout_ready, header-length, not_planned, header_carried}
+use Rattle.std.proofs.Common.{refl, ◌∙◌}
+use Rattle.refusals.proofs.Laws.Numbers.{numbered}
+use Rattle.transcode.proofs.Laws.Whole.{passed, layout_ready, not_planned, header_carried}
 use Rattle.transcode.proofs.transcode_sheet.Goals as goal
 
-pub plan_file-plan-requires : goal.plan_file-plan-requires
-plan_file-plan-requires c =
-    let a = c.args in
-    layout_ready a.file.now a.l a.row.now c.requires a.row.now refl
+pub plan_file-requires : goal.plan_file-requires
+plan_file-requires c = layout_ready c.requires c.args.row.now refl
 
-pub returns-then-plan-ne0 : goal.returns-then-plan-ne0
-returns-then-plan-ne0 c =
-    let a = c.args in let both = not_planned a.file.now a.l a.row.now c.requires a.out.now c.plan_file-plan.ensures.result_value c.if-plan-ne0.true in record { result_value = both.0; out_after = both.1 }
-
-pub slice_bounds-carry_header-end : goal.slice_bounds-carry_header-end
-slice_bounds-carry_header-end c =
-    let a = c.args in
-    header-length a.file.now a.l a.row.now c.requires
-
-pub slice_bounds-write_lines-count : goal.slice_bounds-write_lines-count
-slice_bounds-write_lines-count c =
-    let behind-header : let a = c.args in Carried (raster_of a.l a.file.now) a.file.now a.out.now c.plan_file-plan.result c.carry_header.new.out = let a = c.args in header_carried a.file.now a.l a.row.now c.requires a.out.now c.plan_file-plan.ensures.result_value c.if-plan-ne0.false c.other_type.ensures c.carry_header.ensures in
-    behind-header.start_within
-
-pub slice_bounds-write_lines-start : goal.slice_bounds-write_lines-start
-slice_bounds-write_lines-start c =
-    let behind-header : let a = c.args in Carried (raster_of a.l a.file.now) a.file.now a.out.now c.plan_file-plan.result c.carry_header.new.out = let a = c.args in header_carried a.file.now a.l a.row.now c.requires a.out.now c.plan_file-plan.ensures.result_value c.if-plan-ne0.false c.other_type.ensures c.carry_header.ensures in
-    omega (arith, behind-header.start_within)
+pub returns-in_err-size : goal.returns-in_err-size
+returns-in_err-size c =
+    let both = not_planned c.requires c.args.out.now c.in_err-size.ensures.result_value (numbered _) in
+    record { result_value = passed _ _ c.from_residual.ensures.1 ∙ both.0; out_after = both.1 }
 
 pub write_lines-requires : goal.write_lines-requires
 write_lines-requires c =
-    let behind-header : let a = c.args in Carried (raster_of a.l a.file.now) a.file.now a.out.now c.plan_file-plan.result c.carry_header.new.out = let a = c.args in header_carried a.file.now a.l a.row.now c.requires a.out.now c.plan_file-plan.ensures.result_value c.if-plan-ne0.false c.other_type.ensures c.carry_header.ensures in
-    let a = c.args in record { ready = layout_ready a.file.now a.l a.row.now c.requires c.plan_file-plan.new.row c.plan_file-plan.ensures.row_len_unchanged; lines_fit = behind-header.rest_fits }
+    let x = c.in_ok-size.ensures in
+    record {
+      ready = layout_ready c.requires c.plan_file.new.row x.row_len_unchanged;
+      lines_fit = (header_carried c.requires c.args.out.now x.result_value refl c.other_type.ensures c.carry_header.ensures).rest_fits;
+    }
 
 pub returns : goal.returns
 returns c =
-    let behind-header : let a = c.args in Carried (raster_of a.l a.file.now) a.file.now a.out.now c.plan_file-plan.result c.carry_header.new.out = let a = c.args in header_carried a.file.now a.l a.row.now c.requires a.out.now c.plan_file-plan.ensures.result_value c.if-plan-ne0.false c.other_type.ensures c.carry_header.ensures in
-    let both = behind-header.by_lines c.write_lines.ensures in record { result_value = both.0; out_after = both.1 }
+    let carried = header_carried c.requires c.args.out.now c.in_ok-size.ensures.result_value refl c.other_type.ensures c.carry_header.ensures in
+    let both = carried.by_lines c.write_lines.ensures in
+    record { result_value = both.0; out_after = both.1 }

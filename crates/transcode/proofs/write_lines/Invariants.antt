@@ -1,10 +1,6 @@
-use Rattle.std.proofs.Common.{◌-◌}
 use Rattle.layout.specs.Chain.{raster_of}
 use Rattle.transcode.proofs.Laws.Writing.{WrittenAt}
 use Rattle.transcode.proofs.write_lines.Given as goal
 
 abbrev pub invariant-loop-k : goal.invariant-loop-k
-invariant-loop-k l = WrittenAt (raster_of l.l l.bytes) l.from l.rollover l.row l.initial.out l.out l.at l.k
-
-abbrev pub decreases-loop-k : goal.decreases-loop-k
-decreases-loop-k l = l.n - l.k
+invariant-loop-k l = WrittenAt (raster_of l.l) l.from l.rollover l.row l.initial.out l.out l.at l.k

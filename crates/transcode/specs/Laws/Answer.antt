@@ -31,9 +31,8 @@ pub record Ready (r : Raster) (row : List ℕ) : Type 0 where
   pub ppl_most : r.ppl ≤ most_pixels
   pub wide : length row ≡ r.ppl
 
--- one scanline, surveyed
+-- a good scanline, surveyed
 pub record IsSurvey (scn t p number to : ℕ) (rest : List ℕ) (s : LineSurvey) : Type 0 where
-  pub status : s.status ≡ (reading_of scn t p number rest).status
   pub used : s.used.0 ≡ (step_of scn t p rest).used.0
   pub partway : s.partway ≡ (eqb scn 1 && not (eqb (pixel_offset (head_of rest)) 0))
   pub body : s.body.0 ≡ length (body_bytes to scn (old_row scn t p number rest))
@@ -65,5 +64,5 @@ pub record LinesFit (r : Raster) (out : List ℕ) : Type 0 where
 -- a file that no rule of its own rejects, its layout, and a row of its width
 pub record Movable (f : List ℕ) (l : RasterLayout) (row : List ℕ) : Type 0 where
   pub accepted : first (rules_to22 f ++ unmoved_rules (sheet_of f).data_type) ≡ 0
-  pub laid : raster_of l f ≡ sheet_of f
+  pub laid : raster_of l ≡ sheet_of f
   pub wide : length row ≡ l.ppl

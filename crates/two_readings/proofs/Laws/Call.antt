@@ -1,15 +1,16 @@
 -- Demand 3 of two calls, from their promises.
-use Rattle.std.specs.Prelude.{ℕ, ◌≡◌, List, length}
+use Rattle.std.specs.Prelude.{ℕ, ◌≡◌, Result, List, length}
+use Rattle.refusals.specs.declared.Rejection.{Rejection}
 use Rattle.layout.specs.Chain.{sheet_of}
 use Rattle.layout.specs.Reading.{raster_rejection}
-use Rattle.decode_raster.specs.declared.RasterAnswer.{RasterAnswer}
+use Rattle.decode_raster.specs.declared.Reading.{Reading}
 use Rattle.decode_raster.specs.Answer.{raster_numbers}
 use Rattle.isolation.specs.Statement.{ChangedInBodies, Isolated}
 use Rattle.isolation.proofs.Laws.Law.{isolated}
 use Rattle.two_readings.specs.Call.{ReadingOf}
 
-pub two_calls : (f pixels₁ marks₁ : List ℕ) (r₁ : RasterAnswer) (pixels₁' marks₁' : List ℕ)
-    (g pixels₂ marks₂ : List ℕ) (r₂ : RasterAnswer) (pixels₂' marks₂' : List ℕ)
+pub two_calls : (f pixels₁ marks₁ : List ℕ) (r₁ : Result Reading Rejection) (pixels₁' marks₁' : List ℕ)
+    (g pixels₂ marks₂ : List ℕ) (r₂ : Result Reading Rejection) (pixels₂' marks₂' : List ℕ)
     → ReadingOf f pixels₁ marks₁ r₁ pixels₁' marks₁'
     → ReadingOf g pixels₂ marks₂ r₂ pixels₂' marks₂'
     → (sheet_of f).scn ≡ 1

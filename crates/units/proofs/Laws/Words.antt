@@ -6,6 +6,7 @@ use Rattle.std.proofs.Math.Seq.{take-nil}
 use Rattle.units.specs.LittleEndian.{u16_at}
 use Rattle.units.specs.Counts.{word_bytes}
 use Rattle.units.specs.Words.{words, words_to_bytes, word_count}
+use Rattle.units.proofs.Laws.Over.{over_nil, over_more, over_least}
 
 pub length-words : (s : List ℕ) → length (words s) ≡ (word_count s).0
 unfolding words
@@ -80,3 +81,6 @@ bytes_back (x ∷ (y ∷ r)) (suc p) (suc m) e small =
     let high : (x + 256 * y) / 256 ≡ y = omega arith in
     let more : m ≡ min (word_count r).0 p = omega arith in
     rw (two_suc m, low, high) (ap (λ (l : List ℕ). x ∷ (y ∷ l)) (bytes_back r p m more (λ i. small (suc (suc i)))))
+
+-- a loop that puts words over a buffer
+pub ruleset loading = (over_nil, over_more, over_least, length-words, word_at)

@@ -1,20 +1,9 @@
-use Rattle.std.proofs.Common.{ℕ, ◌+◌, ◌≡◌, sym, ◌∙◌, ap, List, ◌++◌, arith, length, get_or, length-take-le}
+use Rattle.std.proofs.Common.{ℕ, ◌+◌, ◌≡◌, sym, ◌∙◌, ap, List, ◌++◌, arith, length, get_or}
 use lib.ListN.{length-map}
 use Rattle.packing.specs.Weights.{powers, picked}
 use Rattle.packing.proofs.Laws.Weights.{word_picked}
 use Rattle.unpacking.proofs.Laws.Unpacking.{both_put}
 use Rattle.unpacking.proofs.put_word.Goals as goal
-
-pub slice_bounds-put_byte-end-2 : goal.slice_bounds-put_byte-end-2
-slice_bounds-put_byte-end-2 c = sym (length-take-le 8 c.args.part.now (omega arith))
-
-pub put_byte-requires : goal.put_byte-requires
-unfolding powers
-put_byte-requires c = record { weights_len = ap length c.requires.weights_value; part_len = length-take-le 8 c.args.part.now (omega arith) }
-
-pub put_byte-requires-2 : goal.put_byte-requires-2
-unfolding powers
-put_byte-requires-2 c = record { weights_len = ap length c.requires.weights_value; part_len = omega arith }
 
 pub returns : goal.returns
 unfolding powers

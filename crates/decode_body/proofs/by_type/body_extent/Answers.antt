@@ -1,4 +1,4 @@
-use Rattle.std.proofs.Common.{sym, ◌∙◌}
+use Rattle.std.proofs.Common.{sym}
 use Rattle.codec.specs.Table.{codec_of}
 use Rattle.decode_body.proofs.Laws.ByType.{no_extent}
 use Rattle.decode_body.proofs.by_type.body_extent.Goals as goal
@@ -24,4 +24,4 @@ unfolding codec_of
 returns-in-10 c = rw c.in-10.is c.pairs_extent.ensures
 
 pub returns-in_default : goal.returns-in_default
-returns-in_default c = c.fault.ensures ∙ sym (no_extent _ _ _ c.in_default.in_default-own.rest)
+returns-in_default c = sym (no_extent _ _ _ c.in_default.in_default-own.rest)

@@ -1,14 +1,9 @@
-use Rattle.std.proofs.Common.{sym, length-take-le}
 use Rattle.encode_header.proofs.Laws.Header.{header-none, header_put}
 use Rattle.encode_header.proofs.head.write_header.Goals as goal
 
 pub returns-then-out-size : goal.returns-then-out-size
 returns-then-out-size c =
     let a = c.args in let both = header-none a.job a.table.now a.out.now c.header_size-size.ensures c.if-out-size.true in record { result_value = both.0; out_after = both.1 }
-
-pub slice_bounds-clear-end-2 : goal.slice_bounds-clear-end-2
-slice_bounds-clear-end-2 c =
-    sym (length-take-le c.header_size-size.result.0 c.args.out.now c.if-out-size.false)
 
 pub returns : goal.returns
 returns c =

@@ -1,20 +1,14 @@
-use Rattle.std.proofs.Common.{◌≡◌, ℕ, ◌+◌, ◌-◌, ◌≤◌, List, length, take, sym, ap, ap₂, ◌∙◌, subst, rules, take_at, drop_at, length-take-le, ◌++◌}
+use Rattle.std.proofs.Common.{◌≡◌, ℕ, ◌+◌, ◌-◌, ◌≤◌, List, length, take, sym, subst, rules, take_at, drop_at, arith, length-take-le, ◌++◌}
 use Rattle.std.proofs.Math.Seq.{take-add, take-append-le}
 use Rattle.std.specs.Io.KnownBytes.{Consumes}
 use Rattle.std.proofs.KnownBytes.{Consumes-trans}
-use borrow.Rule.Slice.PartMut.{put_mid, post_of}
+use borrow.Rule.Slice.PartMut.{put_mid}
 use Rattle.text.proofs.input.read_full.Goals as goal
 
 -- the part from `at` on is back, and the bytes that were put at its start stand behind those before it
 filled : (buffer part : List ℕ) (at k n : ℕ) → at ≤ length buffer → n ≤ length part
     → take (at + n) (put_mid at k buffer part) ≡ take at buffer ++ take n part
-filled buffer part at k n h g =
-    let front = take at buffer in
-    let rest = part ++ post_of at k buffer in
-    let l : length front ≡ at = length-take-le at buffer h in
-    take-add at n (front ++ rest)
-    ∙ ap₂ (λ (x y : List ℕ). x ++ take n y) (take_at front rest at l) (drop_at front rest at l)
-    ∙ ap (λ (x : List ℕ). front ++ x) (take-append-le n part (post_of at k buffer) g)
+filled buffer part at k n h g = grind (arith, take-add {A = ℕ}, take_at {A = ℕ}, drop_at {A = ℕ}, length-take-le {A = ℕ}, take-append-le {A = ℕ})
 
 pub loop-done-preserved : goal.loop-done-preserved
 loop-done-preserved g c =

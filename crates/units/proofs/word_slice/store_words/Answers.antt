@@ -1,31 +1,12 @@
-use Rattle.std.proofs.Common.{zero-le, ◌≡◌, refl, sym, ◌∙◌, arith, length-set}
-use Rattle.units.specs.Words.{words_to_bytes}
-use Rattle.units.proofs.Laws.Over.{sets_over}
-use Rattle.units.proofs.Laws.Stores.{sets-none, sets_last, sets_pixel}
+use Rattle.std.proofs.Common.{◌+◌, arith}
+use Rattle.units.proofs.Laws.Stores.{over_word, over_room}
 use Rattle.units.proofs.word_slice.store_words.Goals as goal
 
-pub loop-i-init : goal.loop-i-init
-loop-i-init c = (zero-le, refl, sets_over (words_to_bytes _) _)
-
-pub bounds-to-i-in-loop-i : goal.bounds-to-i-in-loop-i
-bounds-to-i-in-loop-i c = simp length-set (omega arith)
-
-pub loop-i-preserved : goal.loop-i-preserved
-loop-i-preserved c =
-    let l = c.loop-i in
-    let a = c.args in
-    (omega arith, simp length-set (omega arith), sym (sets_pixel a.from.now l.to l.i (omega arith)) ∙ l.invariant.2)
-
+-- the word that does not fit whole
 pub returns-then-n-from : goal.returns-then-n-from
 returns-then-n-from c =
-    let l = c.loop-i in
-    let r = c.args.from.now in
-    let e : l.i ≡ c.lesser-n.result = omega arith in
-    let last = sets_last r l.to l.i (omega arith) (omega arith) in
-    c.put_word.ensures ∙ (rw e at (sym last ∙ l.invariant.2))
-
-pub returns-else-n-from : goal.returns-else-n-from
-returns-else-n-from c =
-    let l = c.loop-i in
-    let r = c.args.from.now in
-    sym (sets-none r l.to l.i (omega arith)) ∙ l.invariant.2
+    let a = c.args in
+    let i = c.loop-i.i in
+    let next = over_word a.from.now a.to.now i (omega arith) in
+    let all = over_room a.from.now a.to.now (i + 1) (omega arith) in
+    grind arith

@@ -1,4 +1,0 @@
-use Rattle.color.proofs.entry_color.Goals as goal
-
-pub returns : goal.returns
-returns c = cc

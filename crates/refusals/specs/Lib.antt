@@ -1,0 +1,2 @@
+pub mod Rejections
+pub mod Faults

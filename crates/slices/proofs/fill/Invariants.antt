@@ -1,8 +1,0 @@
-use Rattle.std.proofs.Common.{length, drop, replicate, ◌-◌, ◌≤◌, ◌++◌, ◌≡◌}
-use Rattle.slices.proofs.fill.Given as goal
-
-abbrev pub invariant-loop-i : goal.invariant-loop-i
-invariant-loop-i l = (l.i ≤ length l.initial.row) × (length l.row ≡ length l.initial.row) × (l.row ≡ replicate l.i l.v ++ drop l.i l.initial.row)
-
-abbrev pub decreases-loop-i : goal.decreases-loop-i
-decreases-loop-i l = length l.initial.row - l.i
