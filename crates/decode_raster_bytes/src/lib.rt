@@ -125,7 +125,7 @@ fn read_line(raster: RasterLayout, chain: Chain, k: usize, row: &mut [u8]) -> Ch
         Ok(line) => Chain {
             at: at + line.used.0,
             lost: false,
-            good: chain.good + one_if_good(line.body),
+            good: chain.good + one_if_good(mark(line.body)),
             status: line.body,
             rollover: numbered.rollover,
         },

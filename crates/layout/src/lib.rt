@@ -4,12 +4,10 @@
 #![tactic(auto)]
 
 ghost use Rattle.std.specs.Prelude.{◌≡◌, cond};
-ghost use Rattle.refusals.specs.Faults.{status_of};
 ghost use Rattle.layout.specs.Chain.{sheet_of, raster_of, one_if_good};
 ghost use Rattle.layout.specs.Reading.{answer_of};
 
 use fields::{data_start, fields_of};
-use refusals::Fault;
 
 // A raster: the bytes that its scanlines may look at, where its data start, SCN, the data type, pixels per line and the number of lines.
 #[derive(Clone, Copy)]
@@ -44,9 +42,9 @@ pub fn is_whole(good: u32, nol: u32) -> bool
     good == nol
 }
 
-// What a scanline counts among the good ones.
-pub fn one_if_good(read: Result<(), Fault>) -> u32
-    ensures { result ≡ one_if_good (status_of read) }
+// What a scanline with this status counts among the good ones.
+pub fn one_if_good(status: u8) -> u32
+    ensures { result ≡ one_if_good status }
 {
-    u32::from(read == Ok(()))
+    u32::from(status == 0)
 }

@@ -1,7 +1,6 @@
 use Rattle.std.proofs.Common.{◌≡◌, ◌∙◌, ap, arith, rules, length}
-use Rattle.refusals.specs.Faults.{status_of}
 use Rattle.units.specs.Over.{zeros}
-use Rattle.layout.specs.Chain.{raster_of}
+use Rattle.layout.specs.Chain.{raster_of, one_if_good}
 use Rattle.layout.proofs.Laws.Chain.{good_most}
 use Rattle.decode_scanline.proofs.Laws.Painted.{scan-of}
 use Rattle.decode_raster.specs.Laws.Answer.{as_pixels}
@@ -28,7 +27,7 @@ overflow_add-result c =
 
 pub overflow_add-result-in-Ok : goal.overflow_add-result-in-Ok
 overflow_add-result-in-Ok c =
-    omega (arith, c.requires.chain_at.good, good_most (raster_of c.args.raster) c.args.k, c.one_if_good.ensures, one_most (status_of c.in-Ok.line.body))
+    omega (arith, c.requires.chain_at.good, good_most (raster_of c.args.raster) c.args.k, c.one_if_good.ensures, one_most c.mark.result)
 
 pub returns-in-Ok : goal.returns-in-Ok
 returns-in-Ok c =
@@ -36,7 +35,7 @@ returns-in-Ok c =
     let n = c.number_line-numbered.ensures in
     let line = rw c.requires.row_len at c.in-Ok.ensures in
     step-line (raster_of a.raster) (as_pixels a.raster.ppl) a.k a.chain c.requires.chain_at c.if-chain.false n.rollover_value n.number_value c.read_scanline.new.row line.row_is
-    c.in-Ok.line c.one_if_good.result (scan-of line) c.one_if_good.ensures
+    c.in-Ok.line c.one_if_good.result (scan-of line) (c.one_if_good.ensures ∙ ap one_if_good c.mark.ensures)
 
 pub returns-in-Err : goal.returns-in-Err
 returns-in-Err c =

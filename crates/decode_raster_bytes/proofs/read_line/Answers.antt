@@ -1,6 +1,5 @@
-use Rattle.std.proofs.Common.{◌≡◌, ◌/◌, ◌∙◌, arith, length}
-use Rattle.refusals.specs.Faults.{status_of}
-use Rattle.layout.specs.Chain.{raster_of}
+use Rattle.std.proofs.Common.{◌≡◌, ◌/◌, ◌∙◌, ap, arith, length}
+use Rattle.layout.specs.Chain.{raster_of, one_if_good}
 use Rattle.layout.proofs.Laws.Chain.{good_most}
 use Rattle.layout.proofs.Laws.Line.{length-row}
 use Rattle.decode_raster.specs.Laws.Answer.{as_bytes}
@@ -22,7 +21,7 @@ overflow_add-result c =
 
 pub overflow_add-result-in-Ok : goal.overflow_add-result-in-Ok
 overflow_add-result-in-Ok c =
-    omega (arith, c.requires.chain_at.good, good_most (raster_of c.args.raster) c.args.k, c.one_if_good.ensures, one_most (status_of c.in-Ok.line.body))
+    omega (arith, c.requires.chain_at.good, good_most (raster_of c.args.raster) c.args.k, c.one_if_good.ensures, one_most c.mark.result)
 
 pub returns-in-Ok : goal.returns-in-Ok
 returns-in-Ok c =
@@ -31,7 +30,7 @@ returns-in-Ok c =
     let p : length a.row.now / 2 ≡ a.raster.ppl = omega (arith, c.requires.row_len) in
     step-line (raster_of a.raster) (as_bytes a.raster.ppl) a.k a.chain c.requires.chain_at c.requires.lost_value n.rollover_value n.number_value c.read_scanline_bytes.new.row
     (rw p at c.in-Ok.ensures.row_after ∙ bytes_full _ a.row.now a.raster.ppl (length-row a.raster.scn a.raster.dtc a.raster.ppl _ _) c.requires.row_len)
-    c.in-Ok.line c.one_if_good.result (rw p at c.in-Ok.ensures.scan) c.one_if_good.ensures
+    c.in-Ok.line c.one_if_good.result (rw p at c.in-Ok.ensures.scan) (c.one_if_good.ensures ∙ ap one_if_good c.mark.ensures)
 
 pub returns-in-Err : goal.returns-in-Err
 returns-in-Err c =
