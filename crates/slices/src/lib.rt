@@ -1,4 +1,4 @@
-// Fills and copies of slices, one small loop each, so that the compiler can store many places a turn.
+// Fills and copies of slices, each one small loop or the library's `fill`, so that the compiler can store many places a turn.
 //
 // A copy goes as far as both slices do: what lies behind it in the buffer stays. Loops go by index, since a proof does not know what a
 // `zip` over `iter_mut` leaves.
