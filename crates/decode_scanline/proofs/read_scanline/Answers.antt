@@ -6,6 +6,17 @@ use Rattle.decode_scanline.proofs.Laws.Painted.{good_read, blank_read, blank_los
 use Rattle.decode_scanline.proofs.read_scanline.Goals as goal
 use Rattle.decode_scanline.proofs.read_scanline.Goals.{in_default-via-in-Ok+else-eq, in_default-via-in_default}
 
+pub returns-in_default : goal.returns-in_default
+returns-in_default c =
+    let a = c.args in
+    let f : c.fill.new.self ≡ zeros (length a.row.now) = search rules in
+    let b : (reading_of a.scn a.dtc (length a.row.now) a.number a.rest.now).row ≡ zeros (length a.row.now) =
+    elim c.in_default.branch [
+      | in_default-via-in-Ok+else-eq w ↦ blank_read a.scn a.dtc (length a.row.now) a.number a.rest.now _ c.scan_scanline-read.ensures _ w.in-Ok.is (search rules)
+      | in_default-via-in_default w ↦ blank_lost a.scn a.dtc (length a.row.now) a.number a.rest.now _ c.scan_scanline-read.ensures _ w.in_default.is
+    ] in
+    line-of c.scan_scanline-read.ensures (f ∙ sym b)
+
 pub slice_bounds-paint_from-count : goal.slice_bounds-paint_from-count
 slice_bounds-paint_from-count c =
     let a = c.args in
@@ -34,14 +45,3 @@ returns-in-Ok c =
     let a = c.args in
     let good = good_read a.scn a.dtc (length a.row.now) a.number a.rest.now _ c.scan_scanline-read.ensures _ c.in-Ok.is (search rules) c.body_start-from.ensures c.first_column-column.ensures in
     line-of c.scan_scanline-read.ensures (rw c.in-Ok.line-is at c.paint_from.ensures ∙ painted_line good a.row.now refl)
-
-pub returns-in_default : goal.returns-in_default
-returns-in_default c =
-    let a = c.args in
-    let f : c.fill.new.self ≡ zeros (length a.row.now) = search rules in
-    let b : (reading_of a.scn a.dtc (length a.row.now) a.number a.rest.now).row ≡ zeros (length a.row.now) =
-    elim c.in_default.branch [
-      | in_default-via-in-Ok+else-eq w ↦ blank_read a.scn a.dtc (length a.row.now) a.number a.rest.now _ c.scan_scanline-read.ensures _ w.in-Ok.is (search rules)
-      | in_default-via-in_default w ↦ blank_lost a.scn a.dtc (length a.row.now) a.number a.rest.now _ c.scan_scanline-read.ensures _ w.in_default.is
-    ] in
-    line-of c.scan_scanline-read.ensures (f ∙ sym b)

@@ -18,7 +18,7 @@ slice_bounds-read_raster-end-in-Ok c =
     let a = c.args in
     let w = c.in-Ok.ensures in
     let i = picture a.dtc a.ppl a.nol a.slo a.scn a.drs a.table.now a.pixels.now in
-    sym (length-take-le c.in-Ok.size.0 c.write_raster.new.out (omega (arith, size_fits i (length a.out.now) (write_numbers (Ok c.in-Ok.size)) w.result_value refl, ap length w.out_after ∙ length_after i a.out.now)))
+    sym (length-take-le _ c.write_raster.new.out (omega (arith, size_fits i (length a.out.now) (write_numbers (Ok c.in-Ok.size)) w.result_value refl, ap length w.out_after ∙ length_after i a.out.now)))
 
 pub returns-in-Ok-clause-read_back : goal.returns-in-Ok-clause-read_back
 returns-in-Ok-clause-read_back c =

@@ -1,4 +1,4 @@
-use Rattle.std.proofs.Common.{Ok, refl, sym, length-take-le}
+use Rattle.std.proofs.Common.{Ok, refl, sym, length-take-le, arith}
 use Rattle.two_transcodings.specs.Call.{MovedAndRead}
 use Rattle.two_transcodings.specs.declared.MovedReading.{MovedReading}
 use Rattle.two_transcodings.proofs.Laws.Call.{fits, same_reading}
@@ -7,12 +7,12 @@ use Rattle.two_transcodings.proofs.transcode_and_read.Goals as goal
 pub slice_bounds-read_raster-end : goal.slice_bounds-read_raster-end
 slice_bounds-read_raster-end c =
     let x = c.in-Ok.ensures in
-    fits c.args.file.now c.args.out.now _ x.result_value refl x.out_after
+    omega (arith, fits c.args.file.now c.args.out.now _ x.result_value refl x.out_after)
 
 pub slice_bounds-read_raster-end-in-Ok : goal.slice_bounds-read_raster-end-in-Ok
 slice_bounds-read_raster-end-in-Ok c =
     let x = c.in-Ok.ensures in
-    sym (length-take-le c.in-Ok.size.0 c.transcode-moved.new.out (fits c.args.file.now c.args.out.now _ x.result_value refl x.out_after))
+    sym (length-take-le _ c.transcode-moved.new.out (omega (arith, fits c.args.file.now c.args.out.now _ x.result_value refl x.out_after)))
 
 pub returns-in-Ok : goal.returns-in-Ok
 returns-in-Ok c =
