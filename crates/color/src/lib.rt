@@ -2,7 +2,7 @@
 // file's, or `NoColor` where the value has no color.
 #![tactic(auto)]
 
-ghost use Rattle.std.specs.Prelude.{◌≡◌};
+ghost use Rattle.std.specs.Prelude.{◌≡◌, cond};
 ghost use Rattle.fields.specs.Fields.{fields_of};
 ghost use Rattle.header.specs.Rejections.{rejection_to22};
 ghost use Rattle.color.specs.Color.{color_numbers, color_reading, plotter_reading, is_inked, ink_color, table_color, even_color, gray_color, igds_color, environ_color, entry_color};
@@ -30,20 +30,26 @@ const INK: u16 = 0;
 pub fn color_of(file: &[u8], value: u32) -> Result<Rgb, Rejection>
     ensures { color_numbers result ≡ color_reading file.now value }
 {
-    rejection_to_22(file)?;
-    let h = fields_of(file);
-    if is_inked(h.dtc, h.ctv) {
-        return ink_color(value);
-    }
-    table_color(h, file, value)
+    color_by(true, file, value)
 }
 
 // The color of a pixel value for the grayscale plotter: without a table every file has shades of gray.
 pub fn plotter_color_of(file: &[u8], value: u32) -> Result<Rgb, Rejection>
     ensures { color_numbers result ≡ plotter_reading file.now value }
 {
+    color_by(false, file, value)
+}
+
+// Both colors, so that their rejections are the same: `ink` says whether ink on paper is wanted.
+fn color_by(ink: bool, file: &[u8], value: u32) -> Result<Rgb, Rejection>
+    ensures { color_numbers result ≡ cond ink (color_reading file.now value) (plotter_reading file.now value) }
+{
     rejection_to_22(file)?;
-    table_color(fields_of(file), file, value)
+    let h = fields_of(file);
+    if ink && is_inked(h.dtc, h.ctv) {
+        return ink_color(value);
+    }
+    table_color(h, file, value)
 }
 
 // Whether a data type and a kind of color table are those of ink on paper: bi-level, and no table.

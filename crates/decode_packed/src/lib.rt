@@ -43,10 +43,11 @@ pub fn packed_extent(rest: &[u8], p: usize) -> Result<Scanline, Fault>
         return Err(Fault::PastEnd);
     }
     let size = words_to_bytes(Words(count)).0;
-    Ok(Scanline {
+    let line = Scanline {
         used: Bytes(size),
         body: packed_status(&rest[..size], p),
-    })
+    };
+    Ok(line)
 }
 
 // Whether one of the last word's bits that no pixel has is set: they are its lowest.

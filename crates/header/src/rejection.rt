@@ -4,7 +4,7 @@ ghost use Rattle.std.specs.Prelude.{◌≡◌};
 ghost use Rattle.refusals.specs.Rejections.{rejected_by};
 ghost use Rattle.units.specs.Rules.{first};
 ghost use Rattle.fields.specs.Fields.{header_words, header_blocks};
-ghost use Rattle.header.specs.Rejections.{frame_rules, color_table_rules, rejection_to22, shares_slot, slot_occurs, entry_start, slot_at};
+ghost use Rattle.header.specs.Rejections.{frame_rules, field_rules, color_table_rules, rejection_to22, shares_slot, slot_occurs, entry_start, slot_at};
 
 use fields::{Fields, fields_of, header_blocks, header_words};
 use limits::limit_rejection;
@@ -18,8 +18,7 @@ pub fn rejection_to_22(file: &[u8]) -> Result<(), Rejection>
     let h = fields_of(file);
     let blocks = header_blocks(file);
     frame_rejection(Bytes(file.len()), h, header_words(file), blocks)?;
-    // Casts and no `From`, since each part of the table is proved of the fields themselves.
-    limit_rejection(h.dtc as u32, h.slo as u32, h.scn as u32, h.ppl, h.nol)?;
+    field_rejection(h)?;
     table_rejection(file, h, blocks)
 }
 
@@ -53,6 +52,14 @@ fn frame_rejection(size: Bytes, h: Fields, words: Words, blocks: Blocks) -> Resu
         return Err(Rejection::Version);
     }
     Ok(())
+}
+
+// 16 to 20: the fields within their limits.
+fn field_rejection(h: Fields) -> Result<(), Rejection>
+    ensures { rejected_by result ≡ first (field_rules h) }
+{
+    // Casts and no `From`, since each part of the table is proved of the fields themselves.
+    limit_rejection(h.dtc as u32, h.slo as u32, h.scn as u32, h.ppl, h.nol)
 }
 
 // 21 and 22: a color table of a known kind, within the header, whose slots are distinct.

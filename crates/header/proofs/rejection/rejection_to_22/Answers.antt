@@ -22,13 +22,13 @@ returns-in_err-frame_rejection c =
     let h = c.fields_of-h.result in
     by-fields f c.fields_of-h.ensures (refused (frame_rules (bytes_in f) h) (from-16 f h) _ _ c.from_residual.ensures.1 c.in_err-frame_rejection.ensures)
 
-pub returns-in_err-limit_rejection : goal.returns-in_err-limit_rejection
-returns-in_err-limit_rejection c =
+pub returns-in_err-field_rejection : goal.returns-in_err-field_rejection
+returns-in_err-field_rejection c =
     let f = c.args.file.now in
     let h = c.fields_of-h.result in
     by-fields f c.fields_of-h.ensures
     (allowed (frame_rules (bytes_in f) h) (from-16 f h) tt c.in_ok-frame_rejection.ensures
-    (refused (field_rules h) (color_table_rules f h) _ _ c.from_residual-in_err-limit_rejection.ensures.1 c.in_err-limit_rejection.ensures))
+    (refused (field_rules h) (color_table_rules f h) _ _ c.from_residual-in_err-field_rejection.ensures.1 c.in_err-field_rejection.ensures))
 
 pub returns : goal.returns
 returns c =
@@ -36,4 +36,4 @@ returns c =
     let h = c.fields_of-h.result in
     by-fields f c.fields_of-h.ensures
     (allowed (frame_rules (bytes_in f) h) (from-16 f h) tt c.in_ok-frame_rejection.ensures
-    (allowed (field_rules h) (color_table_rules f h) tt c.in_ok-limit_rejection.ensures c.table_rejection.ensures))
+    (allowed (field_rules h) (color_table_rules f h) tt c.in_ok-field_rejection.ensures c.table_rejection.ensures))
