@@ -1,5 +1,5 @@
 -- The plan of a file: the rejections by its pixels and its sizes, or its length.
-use Rattle.std.specs.Prelude.{◌≡◌, ℕ, ◌+◌, ◌-◌, ◌*◌, Bool, true, false, cond, List, length, take, drop, ◌==◌, refl}
+use Rattle.std.specs.Prelude.{◌≡◌, ℕ, ◌+◌, ◌-◌, ◌*◌, Bool, true, false, cond, List, length, take, drop, ◌==◌}
 use Rattle.std.proofs.Common.{sym, ◌∙◌, ap, arith}
 use Rattle.units.specs.Rules.{first}
 use Rattle.codec.specs.Table.{codec_of}
