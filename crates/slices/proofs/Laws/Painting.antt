@@ -39,6 +39,9 @@ part_stored row new part at end h e p =
 pub take_same : (m n v : ℕ) → m ≤ n → take m (replicate n v) ≡ replicate m v
 take_same m n v h = take-replicate m n v h
 
+drop_same : (m n v : ℕ) → drop m (replicate n v) ≡ replicate (n - m) v
+drop_same m n v = drop-replicate m n v
+
 -- A run is put at its place, and then what comes after it.
 pub run_put : (row : List ℕ) (at : ℕ) (new next : List ℕ) {row' : List ℕ} {r : ℕ} → row' ≡ sets row at new → r ≡ min (at + length new) (length row)
     → sets row at (new ++ next) ≡ sets row' r next
