@@ -1,3 +1,4 @@
+pub mod ByType
 pub mod Bytes
 pub mod Left
 pub mod Most

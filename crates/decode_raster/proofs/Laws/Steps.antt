@@ -77,6 +77,14 @@ module _ (r : Raster) (s : Storing r.ppl) (k : ℕ) (c : Chain) (h : ChainAt r k
     rest : take (length r.bytes - c.at) (from r c.at) ≡ from r (start r k)
     rest = rest_is r.bytes c.at ∙ ap (from r) h.at
 
+    -- what it meets there
+    module _ {rollover : ℕ} (met : rollover ≡ rollover_met c.rollover k (take (length r.bytes - c.at) (from r c.at))) where
+      pub number_here : {number : ℕ} → number ≡ wanted_number rollover k → number ≡ number_of r k
+      number_here wanted = number_met r k c.rollover h.rollover u rest met wanted
+
+      pub known_after : RolloverKnown r (suc k) rollover
+      known_after = known_next r k c.rollover h.rollover u rest met
+
     -- by the number that scanline k must have
     pub step_on : (l : Extent) (row : List ℕ) (d : Chain) {number : ℕ}
         → number ≡ number_of r k → RolloverKnown r (suc k) d.rollover

@@ -68,6 +68,20 @@ module _ (r : Raster) (pixels₀ marks₀ pixels marks : List ℕ) (at k rollove
       (stepped start e row (mid_of (k * width) (k * width + width - k * width) pixels)
       (rw w (lent_length r (as_bytes r.ppl) pixels₀ marks₀ pixels marks (good_chain at k rollover) k now more room)) stored) 0 refl)
 
+-- the same scanlines with what is known of line 65,536 once it is met
+pub renumbered_known : (r : Raster) (pixels₀ marks₀ pixels marks : List ℕ) (at k rollover met : ℕ) → RolloverKnown r k met
+    → LinesAt r (as_bytes r.ppl) pixels₀ marks₀ pixels marks (good_chain at k rollover) k
+    → LinesAt r (as_bytes r.ppl) pixels₀ marks₀ pixels marks (good_chain at k met) k
+renumbered_known r pixels₀ marks₀ pixels marks at k rollover met known now =
+    record {
+      low = now.low;
+      chain = record { at = now.chain.at; lost = now.chain.lost; good = now.chain.good; rollover = known };
+      pixels_is = now.pixels_is;
+      marks_is = now.marks_is;
+      pixels-length = now.pixels-length;
+      marks_length = now.marks_length;
+    }
+
 -- A run starts at scanline k: what is known of line 65,536 is met, and each line's own number is its number less the same count.
 module _ (r : Raster) (pixels₀ marks₀ pixels marks : List ℕ) (at k rollover met : ℕ)
     (now : LinesAt r (as_bytes r.ppl) pixels₀ marks₀ pixels marks (good_chain at k rollover) k)
@@ -101,3 +115,10 @@ module _ (r : Raster) (pixels₀ marks₀ pixels marks : List ℕ) (at k rollove
     run-number r k rollover now.chain.rollover come there meets wanted refl ends j low high,
     run_known r k rollover now.chain.rollover come there meets wanted refl ends j low high,
   )
+
+-- the scanlines read where the loops are left: at the end of the last run, or in one before a scanline that is not regular
+pub same_lines : (r : Raster) (pixels₀ marks₀ : List ℕ) {pixels pixels' marks marks' : List ℕ} {at at' rollover rollover' k k' : ℕ} → pixels ≡ pixels'
+    → marks ≡ marks' → at ≡ at' → rollover ≡ rollover' → k ≡ k'
+    → LinesAt r (as_bytes r.ppl) pixels₀ marks₀ pixels' marks' (good_chain at' k' rollover') k'
+    → LinesAt r (as_bytes r.ppl) pixels₀ marks₀ pixels marks (good_chain at k rollover) k
+same_lines r pixels₀ marks₀ p m a o k x = rw (p, m, a, o, k) x

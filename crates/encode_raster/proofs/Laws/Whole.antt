@@ -62,6 +62,17 @@ put_file head lines out now part start s e p =
     ∙ ap (λ (n : ℕ). (head ++ lines) ++ drop n out) (ap (λ (n : ℕ). n + length lines) s ∙ sym (length-append head lines))
 
 module _ (j : Job) (table pixels out : List ℕ) where
+  -- rejected by a field: by the rules' number, and by a rejection that has it
+  pub by_field_number : {n : ℕ} → n ≡ first (given_rules (job_picture j table pixels)) → (n ≢ 0) → {r : WriteNumbers} → r ≡ record { number = n; size = 0 }
+      → Written (job_picture j table pixels) out r out
+  unfolding writer_rejection
+  by_field_number number some {r} e =
+      let m = ap (λ (x : WriteNumbers). x.number) e in
+      refused (job_picture j table pixels) out r
+      (m ∙ number ∙ sym (first_here (given_rules (job_picture j table pixels)) (picture_rules (job_picture j table pixels) (length out)) (λ z. some (number ∙ z))))
+      (λ z. some (sym m ∙ z))
+      (ap (λ (x : WriteNumbers). x.size) e)
+
   pub by_field : (y : Rejection) → number_of y ≡ first (given_rules (job_picture j table pixels))
       → Written (job_picture j table pixels) out (record { number = number_of y; size = 0 }) out
   unfolding writer_rejection

@@ -1,11 +1,12 @@
 -- The loops that fill a line, and a picture by rows or by bands of columns.
 use Prim.Native.Nat.{ℕ, ◌+◌, ◌-◌, ◌*◌, ◌/◌, ◌%◌, ◌≤◌, ◌<◌}
-use Rattle.std.specs.Prelude.{◌≡◌, refl, ◌⊎◌, Bool, true, false, length, get_or, take, ltb}
+use Rattle.std.specs.Prelude.{◌≡◌, refl, ◌⊎◌, Bool, true, false, length, get_or, take, set, eqb, ltb}
 use Rattle.std.proofs.Math.Path.{sym}
-use Rattle.std.proofs.Common.{◌∙◌, ap, subst, inl, inr, div-add-mod', arith, length-append, get_or-take, get_or-drop, get_or-append-add, length-take-le, ltb-true, ltb-false}
+use Rattle.std.proofs.Common.{◌∙◌, ap, subst, inl, inr, div-add-mod', arith, length-append, length-set, get_or-set_same, get_or-set_other, get_or-take, get_or-drop, get_or-append-add, length-take-le, eqb-true, ltb-true, ltb-false}
 use mathlib.Core.List.{List, ◌++◌}
 use Rattle.std.proofs.Math.ListN.{drop, length-drop, get_or-append}
 use Rattle.std.proofs.Math.Seq.{ext_get_or}
+use Rattle.std.proofs.lemmas.Bool.{eqb-false}
 use borrow.Rule.Slice.PartMut.{mid_of, post_of, put_mid, mid_len, same_len_mid, take_put, drop_put}
 use Rattle.moves.specs.Tabulate.{tabulate}
 use Rattle.moves.proofs.Laws.Tabulate.{length-tabulate, get_or-tabulate, is_tabulate}
@@ -18,6 +19,19 @@ pub record Stored (f : ℕ → ℕ) (old new : List ℕ) (i : ℕ) : Type 0 wher
   pub same : length new ≡ length old
   pub low : i ≤ length old
   pub done : (j : ℕ) → j < i → get_or new j 0 ≡ f j
+
+module _ (f : ℕ → ℕ) (old : List ℕ) where
+  pub stored-none : Stored f old old 0
+  stored-none = record { same = refl; low = omega arith; done = λ j h. absurd (omega arith) }
+
+  pub stored_more : (new : List ℕ) (i : ℕ) → Stored f old new i → (v : ℕ) → i < length old → v ≡ f i → Stored f old (set new i v) (i + 1)
+  stored_more new i s v h e = record { same = length-set new i v ∙ s.same; low = omega arith; done = λ j b. go j b (eqb j i) refl }
+    where
+      go : (j : ℕ) → j < i + 1 → (t : Bool) → eqb j i ≡ t → get_or (set new i v) j 0 ≡ f j
+      go j b true t = rw (eqb-true j i t) (get_or-set_same new i v 0 (omega (arith, s.same)) ∙ e)
+      go j b false t =
+          let o : j ≡ i → ⊥ = eqb-false j i t in
+          get_or-set_other new i j v 0 o ∙ s.done j (omega arith)
 
 pub stored_all : (f : ℕ → ℕ) (old new : List ℕ) (i : ℕ) → Stored f old new i → length old ≤ i → new ≡ tabulate (length old) f
 stored_all f old new i s h = is_tabulate new (length old) f s.same (λ j b. s.done j (omega arith))

@@ -1,5 +1,5 @@
 -- Mirroring, exchanging, and the cells of a grid.
-use Rattle.std.specs.Prelude.{ℕ, zero, suc, ◌+◌, ◌*◌, ◌/◌, ◌%◌, ◌≤◌, ◌<◌, ◌≡◌, refl, Bool, true, false, cond}
+use Rattle.std.specs.Prelude.{ℕ, zero, suc, ◌+◌, ◌-◌, ◌*◌, ◌/◌, ◌%◌, ◌≤◌, ◌<◌, ◌≡◌, refl, Bool, true, false, cond}
 use Rattle.std.proofs.Common.{◌∙◌, suc-mul, mul_comm, mul-zero, mul-le-mul_right, div-lt_iff_lt-mul, mod-eq_of_lt, add-zero, mod-lt, arith}
 use Rattle.std.proofs.Math.Nat.{mul-add-div_right, mul-add-mod_self_right, div-eq_of_lt}
 use Rattle.moves.specs.Moves.{mirror}
@@ -14,6 +14,17 @@ pub mirror_twice : (far : Bool) (n i : ℕ) → i < n → mirror far n (mirror f
 unfolding mirror
 mirror_twice true n i h = omega arith
 mirror_twice false n i h = refl
+
+-- by the distance from the end that is counted from
+pub mirror_down : (far : Bool) (n i e : ℕ) → i < n → e ≡ mirror far n 0 → i < e → e - i ≡ mirror far n i
+unfolding mirror
+mirror_down true n i e h m g = omega arith
+mirror_down false n i e h m g = absurd (omega arith)
+
+pub mirror_up : (far : Bool) (n i e : ℕ) → i < n → e ≡ mirror far n 0 → e ≤ i → i - e ≡ mirror far n i
+unfolding mirror
+mirror_up true n i e h m g = omega arith
+mirror_up false n i e h m g = omega arith
 
 -- exchanging two numbers stays within, twice is none, and their product stays
 pub exchange_below : (c : Bool) {a b m n : ℕ} → a < m → b < n → cond c a b < cond c m n

@@ -1,19 +1,20 @@
 -- A word's bits by the weights of its two bytes.
-use Rattle.std.specs.Prelude.{ℕ, zero, suc, ◌+◌, ◌-◌, ◌*◌, ◌/◌, ◌%◌, ◌^◌, ◌≤◌, ◌<◌, ◌≡◌, refl, Bool, true, false, cond, length, get_or, take, drop, eqb}
-use Rattle.std.proofs.Common.{sym, ◌∙◌, ap, zero-add, suc-add, add_comm, ne_eqb, take_all, eqb-true, ltb-true, ltb-false, pow_pos, shr-shr}
+use Rattle.std.specs.Prelude.{ℕ, zero, suc, ◌+◌, ◌-◌, ◌*◌, ◌/◌, ◌%◌, ◌^◌, ◌≤◌, ◌<◌, min, ◌≡◌, refl, Bool, true, false, cond, length, get_or, set, take, drop, eqb, ltb}
+use Rattle.std.proofs.Common.{sym, ◌∙◌, ap, zero-add, suc-add, add_comm, add-one, ne_eqb, take_all, eqb-true, ltb-true, ltb-false, pow_pos, shr-shr}
 use Rattle.std.proofs.Math.Path.{ap₂}
 use mathlib.Core.List.{List, ◌∷◌, ◌++◌}
 use native.Mathlib.Omega.{arith}
 use Rattle.std.proofs.lemmas.Bool.{eqb-false}
 use Rattle.std.proofs.lemmas.List.{length-map}
 use Rattle.std.proofs.Math.ListN.{get_or-map}
+use Rattle.std.proofs.lemmas.List.Edits.{sets}
 use Rattle.std.proofs.Math.Seq.{take-append_seam, drop-append_seam, take-length}
 use Rattle.std.proofs.Math.Pow.{pow-lt}
 use Rattle.std.specs.Int.Bits.{and_zero_r}
 use Rattle.units.specs.LittleEndian.{u16_at}
 use Rattle.units.specs.Words.{words, words_to_bytes}
 use Rattle.units.specs.Over.{over}
-use Rattle.units.proofs.Laws.Over.{over_nil, over_more, over_least, over_all}
+use Rattle.units.proofs.Laws.Over.{sets-step, sets_past, over_nil, over_more, over_least, over_all}
 use Rattle.units.proofs.Laws.Stores.{bytes-append}
 use Rattle.units.proofs.Laws.Words.{words_step}
 use Rattle.packing.specs.Packing.{bits, word_bits}
@@ -54,6 +55,31 @@ bits_split zero n w = rw (zero-add n)
 bits_split (suc m) n w =
     rw suc-add
     (ap₂ (λ (x : ℕ) (r : List ℕ). x % 2 ∷ r) (ap (λ (k : ℕ). w / 2 ^ k) (add_comm m n) ∙ sym (shr-shr w n m)) (bits_split m n w))
+
+-- A loop over the bits of a word: bit j, then those behind it.
+pub bit_next : (part : List ℕ) (w j : ℕ) → j < 16
+    → sets part j (bits (16 - j) w) ≡ sets (set part j (w / 2 ^ (15 - j) % 2)) (j + 1) (bits (16 - (j + 1)) w)
+unfolding bits
+bit_next part w j h =
+    let e : 16 - j ≡ suc (15 - j) = omega arith in
+    let d : 16 - suc j ≡ 15 - j = omega arith in
+    rw (add-one j, d, e)
+
+-- or none is left, or no room
+pub bits-end : (part : List ℕ) (w j : ℕ) → min 16 (length part) ≤ j → sets part j (bits (16 - j) w) ≡ part
+unfolding bits
+bits-end part w j h = go (ltb j 16) refl
+  where
+    go : (b : Bool) → ltb j 16 ≡ b → sets part j (bits (16 - j) w) ≡ part
+    go true t = sets_past part j (bits (16 - j) w) (omega (arith, ltb-true j 16 t))
+    go false t = let z : 16 - j ≡ 0 = omega (arith, ltb-false j 16 t) in rw z
+
+-- A loop over weights: the bit of weight j, then those behind it.
+pub pick_next : (weights part : List ℕ) (w j : ℕ) → j < length weights
+    → sets part j (drop j (picked w weights)) ≡ sets (set part j (pick w (get_or weights j 0))) (j + 1) (drop (j + 1) (picked w weights))
+pick_next weights part w j h =
+    let e : get_or (picked w weights) j 0 ≡ pick w (get_or weights j 0) = rw (and_zero_r w) at (get_or-map (pick w) weights j 0) in
+    sets-step (picked w weights) part j (omega (arith, length-map weights (pick w))) ∙ rw e
 
 -- A loop over the bits of a word: bit j.
 bit_place : (n w j : ℕ) → j < suc n → get_or (bits (suc n) w) j 0 ≡ w / 2 ^ (n - j) % 2

@@ -1,7 +1,7 @@
 -- Runs put into a row one after the other, as far as it goes: pixels, or their bytes.
 use Rattle.std.specs.Prelude.{ℕ, ◌+◌, ◌-◌, ◌≤◌, ◌<◌, min, max, ◌≡◌, refl, Bool, true, false, List, [], ◌++◌, length, take, drop, replicate, ltb}
 use Rattle.std.proofs.Common.{zero-le, sym, ◌∙◌, ap, append_assoc, append-nil, arith, length-append, length-take, length-drop, drop_of_length-le, take_all, take_at, drop_at, take-take, length-take-le, ltb-true, ltb-false}
-use Rattle.std.proofs.lemmas.List.{length-replicate, replicate-append-replicate, take-append-le, drop-replicate}
+use Rattle.std.proofs.lemmas.List.{length-replicate, replicate-append-replicate, take-append-le, take-replicate, drop-replicate}
 use Rattle.std.proofs.lemmas.List.Edits.{sets}
 use Rattle.std.proofs.Math.Seq.{take-append-add, length-sets}
 use borrow.Rule.Slice.PartMut.{mid_of, put_mid}
@@ -34,6 +34,13 @@ part_stored row new part at end h e p =
     rw p
     (ap (λ (l : List ℕ). take at row ++ l) (cut new (drop at row) (end - at) (omega (arith, length-drop at row)))
     ∙ sym (sets_part row at new))
+
+-- one pixel over and over, its front and what is behind
+pub take_same : (m n v : ℕ) → m ≤ n → take m (replicate n v) ≡ replicate m v
+take_same m n v h = take-replicate m n v h
+
+drop_same : (m n v : ℕ) → drop m (replicate n v) ≡ replicate (n - m) v
+drop_same m n v = drop-replicate m n v
 
 -- A run is put at its place, and then what comes after it.
 pub run_put : (row : List ℕ) (at : ℕ) (new next : List ℕ) {row' : List ℕ} {r : ℕ} → row' ≡ sets row at new → r ≡ min (at + length new) (length row)

@@ -1,5 +1,5 @@
--- The loop that surveys the scanlines: what holds before scanline k, at its start, from turn to turn, and where one is refused.
-use Rattle.std.specs.Prelude.{ℕ, ◌+◌, ◌*◌, ◌≤◌, ◌<◌, ◌≡◌, Bool, true, false, not, ◌&&◌, ◌||◌, List, length, eqb, ltb}
+-- The loop that surveys the scanlines: what holds before scanline k, at its start, from turn to turn, where one is refused, and at its end.
+use Rattle.std.specs.Prelude.{ℕ, ◌+◌, ◌*◌, ◌≤◌, ◌<◌, ◌≡◌, refl, Bool, true, false, not, cond, ◌&&◌, ◌||◌, List, length, eqb, ltb}
 use Rattle.std.proofs.Common.{zero-le, sym, ◌∙◌, ap, ap₂, subst, add-one, arith, eq-eqb, ne_eqb}
 use Rattle.std.proofs.Math.Path.{subst⁻¹}
 use Rattle.std.proofs.lemmas.Bool.{false≢true}
@@ -7,22 +7,34 @@ use Rattle.refusals.specs.declared.Fault.{Fault}
 use Rattle.refusals.specs.Faults.{mark_of}
 use Rattle.refusals.proofs.Laws.Numbers.{marked}
 use Rattle.units.specs.Counts.{n_bytes, words_of_bytes}
+use Rattle.units.specs.Rules.{first}
 use Rattle.units.specs.Words.{word_count}
 use Rattle.codec.specs.Table.{body_bytes}
 use Rattle.numbering.specs.Numbering.{wanted_number, rollover_met}
-use Rattle.layout.specs.Scanline.{pixel_offset, Reading, reading_of}
+use Rattle.layout.specs.Scanline.{head_of, pixel_offset, Reading, reading_of}
 use Rattle.layout.specs.Chain.{Raster, start, reached, number_of, reading_at}
 use Rattle.layout.proofs.Laws.Chain.{start_zero, reached-zero, length-reading}
 use Rattle.layout.proofs.Laws.Line.{length-row}
 use Rattle.layout.proofs.Laws.Numbering.{RolloverKnown, number_met, known_next, known_first}
-use Rattle.scan_scanline.specs.Answer.{body_start}
-use Rattle.encode_answer.specs.Sizes.{most_words}
+use Rattle.scan_scanline.specs.Answer.{body_start, first_column}
+use Rattle.encode_answer.specs.Sizes.{most_words, WriteNumbers, answer_by}
 use Rattle.transcode_parts.specs.Headers.{other_type}
+use Rattle.transcode_parts.specs.Rules.{found_rules}
 use Rattle.transcode.specs.declared.LineSurvey.{LineSurvey}
+use Rattle.transcode.specs.declared.Survey.{Survey}
 use Rattle.transcode.specs.File.{new_lines}
-use Rattle.transcode.specs.Transcoding.{any_line, is_refused, is_partway, is_long}
-use Rattle.transcode.specs.Laws.Answer.{old_row, Ready, IsSurvey, Surveyed}
+use Rattle.transcode.specs.Transcoding.{any_line, is_refused, is_partway, is_long, line_rules}
+use Rattle.transcode.specs.Laws.Answer.{old_row, new_size, Ready, IsSurvey, Surveyed}
 use Rattle.transcode.proofs.Laws.Lines.{line_some, line_next, line_first, lines_first, lent, lent_is, reading_is, head_is, next_within, reached_next, start_next, length-line, line_most}
+
+-- a first column that is not 0
+pub partway_by : (scn : ℕ) (rest : List ℕ) {column : ℕ} → column ≡ first_column scn rest
+    → not (eqb column 0) ≡ (eqb scn 1 && not (eqb (pixel_offset (head_of rest)) 0))
+partway_by scn rest e = ap (λ (n : ℕ). not (eqb n 0)) e ∙ go (eqb scn 1)
+  where
+    go : (b : Bool) → not (eqb (cond b (pixel_offset (head_of rest)) 0) 0) ≡ (b && not (eqb (pixel_offset (head_of rest)) 0))
+    go true = refl
+    go false = refl
 
 pub record SurveyAt (r : Raster) (at rollover : ℕ) (partway long : Bool) (size : ℕ) (row : List ℕ) (k : ℕ) : Type 0 where
   pub low : k ≤ r.nol
@@ -71,7 +83,23 @@ module _ {r : Raster} {at rollover : ℕ} {partway long : Bool} {size : ℕ} {ro
   pub row_kept : {row' : List ℕ} → row' ≡ old_row r.scn r.data_type (length row) number rest → length row' ≡ r.ppl
   row_kept e = ap length e ∙ length-row r.scn r.data_type (length row) rest number ∙ now.wide
 
-  -- it is refused, and so the sheet is
+  -- its status, whatever tells it: where that is not 0 the scanline is refused, and so the sheet is
+  status_is : {status : ℕ} → status ≡ (reading_of r.scn r.data_type (length row) number rest).status → status ≡ (reading_at r k).status
+  status_is e = e ∙ ap (λ (x : Reading). x.status) reads
+
+  pub survey_refused_status : {status : ℕ} → status ≡ (reading_of r.scn r.data_type (length row) number rest).status → (status ≡ 0 → ⊥)
+      → Surveyed r (record { refused = true; partway = partway; long = long; size = n_bytes size })
+  survey_refused_status e some =
+      let has : is_refused r k ≡ true = ap not (ne_eqb (reading_at r k).status 0 (λ z. some (status_is e ∙ z))) in
+      record {
+        refused = sym (line_some (is_refused r) r.nol k more has);
+        partway = λ e. absurd (false≢true (sym e));
+        long = λ e. absurd (false≢true (sym e));
+        size = λ e. absurd (false≢true (sym e));
+        most = omega (arith, now.size_most);
+      }
+
+  -- by a fault
   pub survey_refused : (f : Fault) → mark_of f ≡ (reading_of r.scn r.data_type (length row) number rest).status
       → Surveyed r (record { refused = true; partway = partway; long = long; size = n_bytes size })
   survey_refused f e =
@@ -136,3 +164,31 @@ module _ {r : Raster} {at rollover : ℕ} {partway long : Bool} {size : ℕ} {ro
           size_most = omega (arith, now.size_most, body_most p h);
           wide = row_kept l;
         })
+
+-- none is refused
+pub survey_done : (r : Raster) (at rollover : ℕ) (partway long : Bool) (size : ℕ) (row : List ℕ) (k : ℕ) → SurveyAt r at rollover partway long size row k → k ≡ r.nol
+    → Surveyed r (record { refused = false; partway = partway; long = long; size = n_bytes size })
+survey_done r at rollover partway long size row k now e =
+    record {
+      refused = sym (ap (any_line (is_refused r)) (sym e) ∙ now.good);
+      partway = λ z. now.partway_is ∙ ap (any_line (is_partway r)) e;
+      long = λ z. now.long_is ∙ ap (any_line (is_long r)) e;
+      size = λ z. now.size_is ∙ ap (λ (n : ℕ). length (new_lines r n)) e;
+      most = omega (arith, now.size_most);
+    }
+
+-- The answer by a survey. Where a scanline is refused the rest of it does not matter.
+pub planned : (r : Raster) (room : ℕ) {s : Survey} → Surveyed r s → {a : WriteNumbers}
+    → (let size = r.data_start + s.size.0 in
+    a ≡ answer_by (first (found_rules r.scn s.refused s.partway s.long size room)) size)
+    → a ≡ answer_by (first (line_rules r (new_size r) room)) (new_size r)
+planned r room {s} surveyed e = e ∙ go s.refused refl
+  where
+    go : (b : Bool) → s.refused ≡ b
+        → (let size = r.data_start + s.size.0 in
+        answer_by (first (found_rules r.scn s.refused s.partway s.long size room)) size ≡ answer_by (first (line_rules r (new_size r) room)) (new_size r))
+    go true t = simp (t, sym surveyed.refused ∙ t)
+    go false t =
+        λ j.
+        let size = r.data_start + surveyed.size t j in
+        answer_by (first (found_rules r.scn (surveyed.refused j) (surveyed.partway t j) (surveyed.long t j) size room)) size

@@ -157,11 +157,21 @@ module _ (f out : List ℕ) {n : ℕ} (number : n ≡ first (rules_to22 f ++ unm
               }
 
 -- The same of a layout that is the sheet's.
+pub width : (f : List ℕ) {n : ℕ} → n ≡ first (rules_to22 f ++ unmoved_rules (sheet_of f).data_type) → n ≡ 0 → (l : RasterLayout) → raster_of l ≡ sheet_of f
+    → l.ppl ≤ 65535
+width f number none l laid = rw (ap (λ (r : Raster). r.ppl) laid) (ppl_most f [] number none)
+
 module _ {f : List ℕ} {l : RasterLayout} {row : List ℕ} (m : Movable f l row) where
   pub layout_ready : (row' : List ℕ) → length row' ≡ length row → Ready (raster_of l) row'
   layout_ready row' e =
       subst⁻¹ (λ (r : Raster). Ready r row') m.laid
       (ready f [] (sym m.accepted) refl row' (e ∙ m.wide ∙ ap (λ (r : Raster). r.ppl) m.laid))
+
+  start_inside : l.start ≤ length f
+  start_inside = subst⁻¹ (λ (r : Raster). r.data_start ≤ length f) m.laid (ready f [] (sym m.accepted) refl row (m.wide ∙ ap (λ (r : Raster). r.ppl) m.laid)).starts
+
+  pub header-length : l.start ≡ length (take l.start f)
+  header-length = sym (length-take-le l.start f start_inside)
 
   module _ (out : List ℕ) {a : WriteNumbers}
       (planned : a ≡ answer_by (first (line_rules (raster_of l) (new_size (raster_of l)) (length out))) (new_size (raster_of l))) where

@@ -1,5 +1,5 @@
--- One new scanline put at the start of an output; and the loop that writes them: what holds before scanline k, at its start and from
--- turn to turn.
+-- One new scanline put at the start of an output; and the loop that writes them: what holds before scanline k, at its start, from turn to
+-- turn and at its end.
 use Rattle.std.specs.Prelude.{ℕ, zero, suc, ◌+◌, ◌-◌, ◌/◌, ◌%◌, ◌≤◌, ◌<◌, min, ◌≡◌, refl, true, false, List, ◌++◌, length, take, drop, set, eqb}
 use Rattle.std.proofs.Common.{zero-le, sym, ◌∙◌, ap, append_assoc, ⊎_elim, eq-or-lt_of_le, add-one, arith, eq-eqb, ne_eqb, eqb-true, ltb-false, length-append, length-drop, length-set, drop-drop, drop_at, length-take-le}
 use Rattle.std.proofs.Math.Path.{subst⁻¹}
@@ -165,6 +165,9 @@ module _ {r : Raster} {from rollover : ℕ} {row out₀ out : List ℕ} {at k : 
         fit.room,
       )
 
+  pub at_within : at ≤ length out
+  at_within = omega (arith, line_room)
+
   tail_length : length (mid_of at (length out - at) out) ≡ length out - at
   tail_length = ap length (tail_is at out) ∙ length-drop at out
 
@@ -194,6 +197,9 @@ module _ {r : Raster} {from rollover : ℕ} {row out₀ out : List ℕ} {at k : 
 
     pub used_within : from + s.used.0 ≤ length r.bytes
     used_within = omega (arith, used_is, next_within r k from now.here now.there now.within)
+
+    pub size_within : at + s.size.0 ≤ length out
+    size_within = omega (arith, written.size, ap length line_here, line_room)
 
     -- one scanline more
     pub write_next : {row' : List ℕ} → row' ≡ old
@@ -226,3 +232,11 @@ module _ {r : Raster} {from rollover : ℕ} {row out₀ out : List ℕ} {at k : 
               ∙ (λ j. sym (lines_next r k) j ++ drop (at + sym size j) out₀);
           same = same_len_mid at (length out - at) out part full ∙ now.same;
         })
+
+-- all are written
+pub write_done : (r : Raster) (from rollover : ℕ) (row out₀ out : List ℕ) (at k : ℕ) → WrittenAt r from rollover row out₀ out at k → k ≡ r.nol
+    → out ≡ new_lines r r.nol ++ drop (length (new_lines r r.nol)) out₀
+write_done r from rollover row out₀ out at k now e =
+    now.out_is
+    ∙ ap (λ (m : ℕ). new_lines r k ++ drop m out₀) now.at_is
+    ∙ ap (λ (m : ℕ). new_lines r m ++ drop (length (new_lines r m)) out₀) e

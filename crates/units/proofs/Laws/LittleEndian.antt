@@ -3,13 +3,19 @@ use Rattle.std.specs.Prelude.{ℕ, zero, suc, ◌+◌, ◌%◌, ◌≤◌, ◌�
 use Rattle.std.proofs.Common.{arith}
 use Rattle.std.proofs.lemmas.List.{length-map}
 use Rattle.std.proofs.Math.ListN.{get_or-eq_default}
-use Rattle.units.specs.LittleEndian.{u16_at, low_bytes}
+use Rattle.units.specs.LittleEndian.{u16_at, u32_at, low_bytes}
 
 pub u16_at_past : (s : List ℕ) (at : ℕ) → length s ≤ at → u16_at s at ≡ 0
 unfolding u16_at
 u16_at_past s at h =
     let h₁ : length s ≤ at + 1 = omega arith in
     omega (arith, get_or-eq_default s 0 h, get_or-eq_default s 0 h₁)
+
+pub u32_at_past : (s : List ℕ) (at : ℕ) → length s ≤ at → u32_at s at ≡ 0
+unfolding u32_at
+u32_at_past s at h =
+    let h₂ : length s ≤ at + 2 = omega arith in
+    omega (arith, u16_at_past s at h, u16_at_past s (at + 2) h₂)
 
 -- the low bytes of a list
 pub length-low : (xs : List ℕ) → length (low_bytes xs) ≡ length xs

@@ -1,7 +1,7 @@
 -- Bytes put over a buffer, and the stores that put them there one by one. A store past the end changes nothing, so `sets`
 -- goes as far as the buffer does.
 use Rattle.std.specs.Prelude.{ℕ, zero, suc, ◌+◌, ◌≤◌, ◌<◌, min, ◌≡◌, refl, Bool, true, false, List, [], ◌∷◌, ◌++◌, length, get_or, take, drop, set, ltb}
-use Rattle.std.proofs.Common.{sym, ◌∙◌, ap, append-nil, add-zero, add-suc, suc-add, zero-add, arith, length-append, length-take, length-drop, drop_of_length-le, ltb-true, ltb-false, get_or-set_other, take_all, take-take, length-take-le}
+use Rattle.std.proofs.Common.{sym, ◌∙◌, ap, append-nil, add-zero, add-suc, suc-add, zero-add, arith, length-append, length-take, length-drop, drop_of_length-le, ltb-true, ltb-false, add-one, get_or-set_other, take_all, take-take, length-take-le, drop-cons}
 use Rattle.std.proofs.lemmas.List.{take_more}
 use Rattle.std.proofs.lemmas.List.Edits.{sets}
 use Rattle.std.proofs.Math.Seq.{set_out, take-nil}
@@ -92,6 +92,18 @@ take_least s p m e = go (ltb (length s) p) refl
         let h : p ≤ length s = ltb-false (length s) p t in
         let q : m ≡ p = omega arith in
         rw q
+
+-- A loop that stores a list from the front, one element a turn: element i and those behind it, or none is left or no room.
+module _ (xs out : List ℕ) (i : ℕ) where
+  pub sets-step : i < length xs → sets out i (drop i xs) ≡ sets (set out i (get_or xs i 0)) (i + 1) (drop (i + 1) xs)
+  sets-step h = rw (add-one i, drop-cons xs i 0 h)
+
+  pub sets_end : min (length xs) (length out) ≤ i → sets out i (drop i xs) ≡ out
+  sets_end h = go (ltb i (length xs)) refl
+    where
+      go : (b : Bool) → ltb i (length xs) ≡ b → sets out i (drop i xs) ≡ out
+      go true e = sets_past out i (drop i xs) (omega (arith, ltb-true i (length xs) e))
+      go false e = rw (drop_of_length-le xs {i = i} (ltb-false i (length xs) e))
 
 -- A loop that puts a list over a buffer, one element a turn: the next, and none is left or no room.
 pub over_more : (new old : List ℕ) (i : ℕ) → i < length new → over (take (i + 1) new) old ≡ set (over (take i new) old) i (get_or new i 0)

@@ -1,11 +1,12 @@
 -- Words as bytes: laws of `words_to_bytes`, and of the stores that put a word, or a number of 32 bits, where it belongs.
-use Rattle.std.specs.Prelude.{ℕ, zero, suc, ◌+◌, ◌*◌, ◌%◌, ◌/◌, ◌^◌, ◌≤◌, ◌<◌, ◌≡◌, refl, List, [], ◌∷◌, ◌++◌, length, get_or, take, drop, set, replicate}
-use Rattle.std.proofs.Common.{sym, ◌∙◌, ap, add-one, arith, inl, inr, drop_of_length-le, length-take-le, take_all}
+use Rattle.std.specs.Prelude.{ℕ, zero, suc, ◌+◌, ◌*◌, ◌%◌, ◌/◌, ◌^◌, ◌≤◌, ◌<◌, ◌≡◌, refl, Bool, true, false, List, [], ◌∷◌, ◌++◌, length, get_or, take, drop, set, replicate, ltb}
+use Rattle.std.proofs.Common.{sym, ◌∙◌, ap, add-one, arith, inl, inr, drop_of_length-le, length-set, drop-cons, length-take-le, take_all, ltb-true, ltb-false}
 use Rattle.std.proofs.Math.Numerals.{add-two}
 use Rattle.std.proofs.Math.Nat.{div-div-eq-div-mul}
 use Rattle.std.proofs.lemmas.Bool.{cases_lt}
 use Rattle.std.proofs.lemmas.List.{length-replicate, get_or-replicate, take-replicate, take-append-drop, take_more}
 use Rattle.std.proofs.lemmas.List.Edits.{sets}
+use Rattle.std.proofs.Math.Seq.{set_out, length-sets}
 use Rattle.units.specs.Counts.{word_bytes}
 use Rattle.units.specs.LittleEndian.{u16_bytes, u32_bytes}
 use Rattle.units.specs.Over.{over, zeros}
@@ -27,6 +28,15 @@ pub sets_word : (out : List ℕ) (at w : ℕ) (r : List ℕ)
     → sets out at (words_to_bytes (w ∷ r)) ≡ sets (sets out at (w % 256 ∷ (w / 256 ∷ []))) (at + 2) (words_to_bytes r)
 unfolding words_to_bytes
 sets_word out at w r = rw (add-two at)
+
+-- pixel i of a row, then those behind it
+pub sets_pixel : (row out : List ℕ) (i : ℕ) → i < length row
+    → sets out (2 * i) (words_to_bytes (drop i row))
+    ≡ sets (set (set out (2 * i) (get_or row i 0 % 256)) (2 * i + 1) (get_or row i 0 / 256)) (2 * (i + 1)) (words_to_bytes (drop (i + 1) row))
+unfolding words_to_bytes
+sets_pixel row out i h =
+    let e : 2 * (i + 1) ≡ suc (suc (2 * i)) = omega arith in
+    rw (e, add-one (2 * i), add-one i, drop-cons row i 0 h)
 
 -- A loop that stores words over a buffer, one a turn: none yet, the next, and no room for more.
 pub over_none : (old : List ℕ) → over (words_to_bytes []) old ≡ old
@@ -63,6 +73,50 @@ over_room ws old n h =
 pub sets-none : (row out : List ℕ) (i : ℕ) → length row ≤ i → sets out (2 * i) (words_to_bytes (drop i row)) ≡ out
 unfolding words_to_bytes
 sets-none row out i h = rw (drop_of_length-le row {i = i} h)
+
+-- pixels are left, and the buffer ends with the first of them
+pub sets_last : (row out : List ℕ) (i : ℕ) → i < length row → length out ≤ 2 * i + 2
+    → sets out (2 * i) (words_to_bytes (drop i row)) ≡ sets out (2 * i) (get_or row i 0 % 256 ∷ (get_or row i 0 / 256 ∷ []))
+sets_last row out i h g =
+    let v = get_or row i 0 % 256 ∷ (get_or row i 0 / 256 ∷ []) in
+    rw (drop-cons row i 0 h, sets_word out (2 * i) (get_or row i 0) (drop (suc i) row))
+    (sets_past (sets out (2 * i) v) (2 * i + 2) (words_to_bytes (drop (suc i) row)) (omega (arith, length-sets out (2 * i) v)))
+
+-- one word over and over: the next one, and the last, where there is room for one at most
+module _ (out : List ℕ) (m w i : ℕ) where
+  pub sets_same : i < m
+      → sets out (2 * i) (words_to_bytes (drop i (replicate m w)))
+      ≡ sets (set (set out (2 * i) (w % 256)) (2 * i + 1) (w / 256)) (2 * (i + 1)) (words_to_bytes (drop (i + 1) (replicate m w)))
+  sets_same h =
+      rw (get_or-replicate m i w 0 h) at (sets_pixel (replicate m w) out i (omega (arith, length-replicate m w)))
+
+  pub same_last : length out ≤ m → length out ≤ 2 * i + 2 → sets out (2 * i) (words_to_bytes (drop i (replicate m w))) ≡ sets out (2 * i) (two_bytes w)
+  same_last k g = go (ltb i m) refl
+    where
+      go : (b : Bool) → ltb i m ≡ b → sets out (2 * i) (words_to_bytes (drop i (replicate m w))) ≡ sets out (2 * i) (two_bytes w)
+      go true e =
+          let h : i < m = ltb-true i m e in
+          rw (get_or-replicate m i w 0 h) at (sets_last (replicate m w) out i (omega (arith, length-replicate m w)) g)
+      go false e =
+          let h : m ≤ i = ltb-false i m e in
+          sets_past out (2 * i) (words_to_bytes (drop i (replicate m w))) (omega arith) ∙ sym (sets_past out (2 * i) (two_bytes w) (omega arith))
+
+-- a byte as a word: the next one, and the last, where there is room for no whole one
+module _ (bytes out : List ℕ) (i : ℕ) (h : i < length bytes) (small : get_or bytes i 0 < 256) where
+  low : get_or bytes i 0 % 256 ≡ get_or bytes i 0
+  low = omega arith
+
+  high : get_or bytes i 0 / 256 ≡ 0
+  high = omega arith
+
+  pub sets_byte : sets out (2 * i) (words_to_bytes (drop i bytes))
+      ≡ sets (set (set out (2 * i) (get_or bytes i 0)) (2 * i + 1) 0) (2 * (i + 1)) (words_to_bytes (drop (i + 1) bytes))
+  sets_byte = rw (low, high) at (sets_pixel bytes out i h)
+
+  pub byte_last : length out ≤ 2 * i + 1 → sets out (2 * i) (words_to_bytes (drop i bytes)) ≡ set out (2 * i) (get_or bytes i 0)
+  byte_last g =
+      (rw (low, high) at (sets_last bytes out i h (omega arith)))
+      ∙ set_out (set out (2 * i) (get_or bytes i 0)) (suc (2 * i)) 0 (omega (arith, length-set out (2 * i) (get_or bytes i 0)))
 
 -- the first bytes of one word over and over, however often
 pub take-same_bytes : (m a b w : ℕ) → m ≤ 2 * a → m ≤ 2 * b → take m (words_to_bytes (replicate a w)) ≡ take m (words_to_bytes (replicate b w))
