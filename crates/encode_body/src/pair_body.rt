@@ -1,30 +1,44 @@
 // Type 10: pairs of words, value then count.
-ghost use Rattle.std.specs.Prelude.{◌≡◌, ◌+◌, ◌<◌, ◌^◌, length};
+ghost use Rattle.std.specs.Prelude.{◌≡◌, ◌+◌, ◌≤◌, ◌<◌, ◌^◌, length, drop};
 ghost use Rattle.std.proofs.lemmas.List.Edits.{sets};
 ghost use Rattle.units.specs.Counts.{word_bytes};
 ghost use Rattle.units.specs.Over.{over};
 ghost use Rattle.units.specs.Words.{words_to_bytes};
 ghost use Rattle.cutting.specs.Pieces.{value_pieces};
+ghost use Rattle.codec.specs.Leading.{leading};
 ghost use Rattle.codec.specs.PairPixels.{pair_body};
 
-use crate::measuring::run_length;
 use crate::put_next;
 use units::Bytes;
 
-// Writes the runs of equal pixels of a row.
+// Writes the runs of equal pixels of a row. The loop goes by the place where a run starts: with what is left of the row in its place, and
+// `run_length` of it, rows of very short runs take a tenth more time.
 pub fn write_pairs(row: &[u16], out: &mut [u8]) -> Bytes
     ensures result_value { result.0 ≡ length (pair_body row.now) }
     ensures out_after { out.new ≡ over (pair_body row.now) out.old }
 {
     let mut at = 0;
-    let mut rest = row;
-    while !rest.is_empty() {
-        let v = rest[0];
-        let n = 1 + run_length(&rest[1..], v);
-        at = put_pairs(out, at, v, n);
-        rest = &rest[n..];
+    let mut i = 0;
+    while i < row.len() {
+        let v = row[i];
+        let end = run_end(row, i + 1, v);
+        at = put_pairs(out, at, v, end - i);
+        i = end;
     }
     Bytes(at)
+}
+
+// Where the pixels of value `v` that start at `from` end.
+fn run_end(row: &[u16], from: usize, v: u16) -> usize
+    requires { from ≤ length row.now }
+    ensures { result ≡ from + leading v (drop from row.now) }
+{
+    for i in from..row.len() {
+        if row[i] != v {
+            return i;
+        }
+    }
+    row.len()
 }
 
 // One run of n pixels: above 32,767 a full piece, then the pieces of the rest; up to 32,767 one piece. Each has the value before it
