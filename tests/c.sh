@@ -68,6 +68,10 @@ sed -nE 's/^uint32_t (ingr_[a-z_]+)\(.*/\1/p' target/c/ingr.h | sort >"$room/rig
 nm -g --defined-only target/c/libingr.a 2>/dev/null | sed -nE 's/.* T (ingr_[a-z_]+)$/\1/p' | sort >"$room/mine"
 try "the archive has what the header declares" same "$room/right" "$room/mine"
 try "target/c/ingr.h is include/ingr.h" cmp include/ingr.h target/c/ingr.h
+# What it needs from outside: a program without a C library has to bring each name.
+printf 'memcpy\nmemset\n' >"$room/right"
+nm -u target/c/libingr.a 2>/dev/null | sed -nE 's/^ +U (\w+)$/\1/p' | sort -u >"$room/mine"
+try "the archive needs memcpy and memset alone" same "$room/right" "$room/mine"
 
 # The example, by the lines that README shows.
 build() {
